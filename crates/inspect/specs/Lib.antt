@@ -1,0 +1,4 @@
+pub mod Facts
+pub mod Seal
+pub mod Text
+pub mod Task
