@@ -46,7 +46,7 @@ module _ (w p : ℕ) (fits : p < 2 ^ w) where
   shifted-xor a b ha hb =
       ap (λ (x : ℕ). bitXor (x % 2 ^ w) (poly p (x / 2 ^ w))) (double a b)
       ∙ ap₂ (λ (x y : ℕ). bitXor x y) (xor-mod (a * 2) (b * 2) w)
-        (ap (poly p) (xor-shr (a * 2) (b * 2) w) ∙ poly-xor p (a * 2 / 2 ^ w) (b * 2 / 2 ^ w) (top a ha) (top b hb))
+      (ap (poly p) (xor-shr (a * 2) (b * 2) w) ∙ poly-xor p (a * 2 / 2 ^ w) (b * 2 / 2 ^ w) (top a ha) (top b hb))
       ∙ swap4 (a * 2 % 2 ^ w) (b * 2 % 2 ^ w) (poly p (a * 2 / 2 ^ w)) (poly p (b * 2 / 2 ^ w))
 
   pub shifts-xor : (n a b : ℕ) → a < 2 ^ w → b < 2 ^ w → shifts w p n (bitXor a b) ≡ bitXor (shifts w p n a) (shifts w p n b)
@@ -70,7 +70,7 @@ module _ (w p : ℕ) (fits : p < 2 ^ w) where
 
 -- A byte is fed by one look at a table of 256 entries, which has at x the register after eight shifts of x in its upper bits.
 pub fed-by-table : (k p r byte : ℕ) → p < 2 ^ (k + 8) → r < 2 ^ (8 + k) → byte < 2 ^ 8
-  → fed (k + 8) p r byte ≡ bitXor (r * 256 % 2 ^ (k + 8)) (shifts (k + 8) p 8 (bitXor (r / 2 ^ k) byte * 2 ^ k))
+    → fed (k + 8) p r byte ≡ bitXor (r * 256 % 2 ^ (k + 8)) (shifts (k + 8) p 8 (bitXor (r / 2 ^ k) byte * 2 ^ k))
 unfolding fed
 fed-by-table k p r byte hp hr hb =
     let width : k + 8 - 8 ≡ k = omega arith in
@@ -79,15 +79,15 @@ fed-by-table k p r byte hp hr hb =
     let lo< : lo < 2 ^ k = mod-below r (2 ^ k) (pow-pos k) in
     let x< : bitXor hi byte < 2 ^ 8 = xor-lt 8 hi byte (shr-below r 8 k hr) hb in
     let split : bitXor r (byte * 2 ^ k) ≡ bitXor lo (bitXor hi byte * 2 ^ k) =
-        ap₂ (λ (x y : ℕ). bitXor x y) (sym (shr-split r k)) (sym (add-zero (byte * 2 ^ k)))
-        ∙ xor-block k hi byte lo 0 lo< (pow-pos k)
-        ∙ ap (λ (x : ℕ). bitXor hi byte * 2 ^ k + x) (xor-zero-r lo)
-        ∙ sym (xor-shifted (bitXor hi byte) k lo lo<)
-        ∙ xor-comm _ lo in
+    ap₂ (λ (x y : ℕ). bitXor x y) (sym (shr-split r k)) (sym (add-zero (byte * 2 ^ k)))
+    ∙ xor-block k hi byte lo 0 lo< (pow-pos k)
+    ∙ ap (λ (x : ℕ). bitXor hi byte * 2 ^ k + x) (xor-zero-r lo)
+    ∙ sym (xor-shifted (bitXor hi byte) k lo lo<)
+    ∙ xor-comm _ lo in
     let lo8 : lo * 2 ^ 8 < 2 ^ (k + 8) = shl-below lo k 8 lo< in
     let low : shifts (k + 8) p 8 lo ≡ r * 256 % 2 ^ (k + 8) =
-        shifts-low (k + 8) p hp 8 lo lo8
-        ∙ sym (mod-pow-add (r * 256) k 8 ∙ ap₂ (λ (x y : ℕ). x % 2 ^ k * 256 + y) (shl-shr r 8) (mul-mod-left r 256) ∙ add-zero _) in
+    shifts-low (k + 8) p hp 8 lo lo8
+    ∙ sym (mod-pow-add (r * 256) k 8 ∙ ap₂ (λ (x y : ℕ). x % 2 ^ k * 256 + y) (shl-shr r 8) (mul-mod-left r 256) ∙ add-zero _) in
     ap (λ (n : ℕ). shifts (k + 8) p 8 (bitXor r (byte * 2 ^ n))) width
     ∙ ap (shifts (k + 8) p 8) split
     ∙ shifts-xor (k + 8) p hp 8 lo (bitXor hi byte * 2 ^ k) (omega arith) (subst (λ (n : ℕ). bitXor hi byte * 2 ^ k < 2 ^ n) (omega arith) (shl-below (bitXor hi byte) 8 k x<))

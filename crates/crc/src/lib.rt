@@ -41,5 +41,4 @@ pub fn sum<S: Checksum>(bytes: &[u8]) -> S::Register
 // The register's laws, at every width: linear over XOR, and what becomes of its low part.
 pub fn register_is_linear()
     ensures { λ _. ⌜ Linear ⌝ }
-{
-}
+{}

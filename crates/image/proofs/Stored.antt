@@ -18,8 +18,8 @@ use Rattle.image.specs.declared.crc8.Crc8State.the-variants as B
 
 -- a state that a step leaves in the shape `summing stored _` carries a register of its own through a list
 carried : {State : Type 0} (next : State → ℕ → State) (summing : ℕ → State) (step : ℕ → ℕ → ℕ)
-  → ((register byte : ℕ) → next (summing register) byte ≡ summing (step register byte))
-  → (bytes : List ℕ) (register : ℕ) → folded next (summing register) bytes ≡ summing (folded step register bytes)
+    → ((register byte : ℕ) → next (summing register) byte ≡ summing (step register byte))
+    → (bytes : List ℕ) (register : ℕ) → folded next (summing register) bytes ≡ summing (folded step register bytes)
 carried next summing step one [] register = refl
 carried next summing step one (byte ∷ bytes) register =
     ap (λ s. folded next s bytes) (one register byte) ∙ carried next summing step one bytes (step register byte)

@@ -95,5 +95,4 @@ pub fn startable<C: ImageCheck>(area: &[u8]) -> bool
 // What each of the three checks accepts, and that none accepts an image that is shorter than its stored sum.
 pub fn meanings()
     ensures { λ _. ⌜ Meanings ⌝ }
-{
-}
+{}

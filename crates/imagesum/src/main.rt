@@ -26,8 +26,10 @@ fn asked(rt: &LibcRuntime) -> Result<Task, AnyError> {
     };
     match (Task::named(word.as_str()), words.next()) {
         (Some(task), None) => Ok(task),
-        (Some(_), Some(_)) => Err("one word at most: inspect or seal; nothing was read or written".into()),
-        (None, _) => Err("unknown word; write inspect, seal or nothing; nothing was read or written".into()),
+        (Some(_), Some(_)) =>
+            Err("one word at most: inspect or seal; nothing was read or written".into()),
+        (None, _) =>
+            Err("unknown word; write inspect, seal or nothing; nothing was read or written".into()),
     }
 }
 

@@ -13,8 +13,8 @@ use Rattle.image.proofs.Stored.{ccitt-means}
 use Rattle.inspect.specs.Seal.{sealed}
 
 pub sealed-is : (image : List ℕ) (sum : ℕ) (bytes : List ℕ) → 2 ≤ length image → sum ≡ ccitt (drop 2 image) → sum < 65536
-  → bytes ≡ (sum % 256) ∷ (sum / 256 % 256) ∷ []
-  → set (set image 0 (getD bytes 0 0)) 1 (getD bytes 1 0) ≡ sealed image
+    → bytes ≡ (sum % 256) ∷ (sum / 256 % 256) ∷ []
+    → set (set image 0 (getD bytes 0 0)) 1 (getD bytes 1 0) ≡ sealed image
 sealed-is [] sum bytes long e h b = let none : ⊥ = omega arith in absurd none
 sealed-is (x ∷ []) sum bytes long e h b = let none : ⊥ = omega arith in absurd none
 sealed-is (x ∷ y ∷ rest) sum bytes long e h b =

@@ -30,13 +30,13 @@ lines (fact ∷ facts) = codes (fact .0) ++ (codes ": " ++ (fact .1 ++ (codes "\
 abbrev pub report-text : Report → List ℕ
 report-text r =
     lines (
-      ("length in bytes", decimal (r .length))
-      ∷ ("CRC-CCITT sum of all bytes after the first two", field-text (r .ccitt .computed))
-      ∷ ("stored CRC-CCITT sum, the first two bytes", field-text (r .ccitt .stored))
-      ∷ ("CRC-8 sum of all bytes after the first", field-text (r .crc8 .computed))
-      ∷ ("stored CRC-8 sum, the first byte", field-text (r .crc8 .stored))
-      ∷ ("entry, the last two bytes", field-text (r .entry))
-      ∷ ("may be started, checked by CRC-CCITT", verdict-text (r .verdicts .ccitt))
-      ∷ ("may be started, checked by CRC-8", verdict-text (r .verdicts .crc8))
-      ∷ ("may be started, by its entry only", verdict-text (r .verdicts .vector))
-      ∷ [])
+    ("length in bytes", decimal (r .length))
+    ∷ ("CRC-CCITT sum of all bytes after the first two", field-text (r .ccitt .computed))
+    ∷ ("stored CRC-CCITT sum, the first two bytes", field-text (r .ccitt .stored))
+    ∷ ("CRC-8 sum of all bytes after the first", field-text (r .crc8 .computed))
+    ∷ ("stored CRC-8 sum, the first byte", field-text (r .crc8 .stored))
+    ∷ ("entry, the last two bytes", field-text (r .entry))
+    ∷ ("may be started, checked by CRC-CCITT", verdict-text (r .verdicts .ccitt))
+    ∷ ("may be started, checked by CRC-8", verdict-text (r .verdicts .crc8))
+    ∷ ("may be started, by its entry only", verdict-text (r .verdicts .vector))
+    ∷ [])

@@ -5,12 +5,12 @@ ghost use Rattle.inspect.specs.Text.{field-text, verdict-text, report-text};
 use crate::Field;
 use crate::Report;
 use crate::TooShort;
+use crate::TooShortDebug;
 use crate::Verdict;
 use hex::HexByte;
 use hex::HexByteDisplay;
 use hex::HexWord;
 use hex::HexWordDisplay;
-use crate::TooShortDebug;
 use std::error::Error;
 use std::fmt;
 
@@ -69,7 +69,10 @@ pub impl fmt::Display for TooShort as TooShortDisplay {
     ghost shown = { λ _. Some (codes "an image of fewer than two bytes cannot hold a CRC-CCITT sum; it is left as it came") };
 
     fn fmt<W: fmt::Write>(&self, f: &mut fmt::Formatter<W>) -> fmt::Result {
-        write!(f, "an image of fewer than two bytes cannot hold a CRC-CCITT sum; it is left as it came")
+        write!(
+            f,
+            "an image of fewer than two bytes cannot hold a CRC-CCITT sum; it is left as it came"
+        )
     }
 }
 

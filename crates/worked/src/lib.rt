@@ -3,5 +3,4 @@ ghost use Rattle.worked.specs.Worked.{Worked};
 
 pub fn worked_examples()
     ensures { λ _. ⌜ Worked ⌝ }
-{
-}
+{}

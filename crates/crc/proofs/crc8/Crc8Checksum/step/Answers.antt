@@ -16,7 +16,7 @@ index-register c = xor-lt 8 (c .args .register) (c .args .byte) (search needs) (
 pub cast-result : need.cast-result
 cast-result c =
     let h : bitXor (c .args .register) (c .args .byte) < 256 =
-        xor-lt 8 (c .args .register) (c .args .byte) (search needs) (search needs) in
+    xor-lt 8 (c .args .register) (c .args .byte) (search needs) (search needs) in
     record { fits = omega arith }
 
 pub returns : need.returns
