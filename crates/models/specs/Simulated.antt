@@ -1,7 +1,7 @@
 -- A simulated memory over bytes and a list of cuts that its caller holds: what each change leaves, exactly.
 use mathlib.Core.Path.{_≡_}
 use mathlib.Core.Bool.{Bool, true, false, cond, _&&_}
-use mathlib.Core.List.{List, map, _++_}
+use mathlib.Core.List.{List, [], _∷_, map, _++_}
 use Prim.Native.Nat.{ℕ, _+_, _*_, _/_, _%_, _<_, min}
 use lib.Dec.{ltb, leb}
 use lib.ListN.{length, getD, set, take, drop, replicate}
@@ -10,6 +10,7 @@ use Rattle.std.specs.declared.result.Result.the-variants.{Ok, Err}
 use Rattle.memory.specs.State.{State}
 use Rattle.memory.specs.Change.{Change, write, erase, first, span, End}
 use Rattle.memory.specs.Make.{Make}
+use Rattle.memory.specs.Ran.{Ran}
 use Rattle.memory.specs.declared.Fault.the-variants.{PastEnd, SupplyLost}
 use Rattle.models.specs.Cells.{Cells}
 use Rattle.models.specs.declared.simulated.Cut.{Cut}
@@ -102,6 +103,11 @@ module _ (cells : Cells) where
     abbrev pub changed : Change → Simulated C → Simulated C × End
     changed c m = met (fate (first c) (span c) m) c m
 
+    -- changes in turn, until one is refused
+    abbrev pub made : List Change → Simulated C → Simulated C × End
+    made [] m = (m, Ok tt)
+    made (c ∷ cs) m = elim (changed c m .1) [ Ok _ ↦ made cs (changed c m .0) | Err f ↦ (changed c m .0, Err f) ]
+
     -- the supply is on again, and nothing else is new
     abbrev pub restored : Simulated C → Simulated C
     restored m = record { bytes = m .bytes; cuts = m .cuts; next = m .next; finished = m .finished; on = true; cells = m .cells }
@@ -117,6 +123,11 @@ module _ (cells : Cells) where
       changes = λ c m n r. Carries-a-byte c × ((n, r) ≡ changed c m);
       restores = λ m n. n ≡ restored m;
     }
+
+-- every list of changes has one outcome, counters and all
+abbrev pub Exact : Cells → Type 0 → Type 0
+Exact cells C =
+    (cs : List Change) (m n : Simulated C) (r : End) → Ran (simulated cells) cs m n r → (n, r) ≡ made cells cs m
 
 -- a new one over the caller's bytes and cuts
 pub record Fresh {C : Type 0} (bytes : RefT (List ℕ)) (cuts : RefT (List Cut)) (m : Simulated C) : Type 0 where

@@ -1,4 +1,6 @@
 // Two simulated memories with exact cuts, flash and FRAM, over bytes and a list of cuts that the caller holds.
+ghost use Rattle.models.specs.Simulated.{Exact};
+
 mod cells;
 mod simulated;
 
@@ -14,3 +16,8 @@ pub use simulated::SimulatedMemory;
 pub type Flash<'a> = Simulated<'a, FlashCells>;
 
 pub type Fram<'a> = Simulated<'a, FramCells>;
+
+// Every list of changes has one outcome: the bytes, the counters, the supply and the end are the ones that the definitions give.
+pub fn exact<C: Cells>()
+    ensures { λ _. ⌜ Exact (C·Cells .rules) C ⌝ }
+{}

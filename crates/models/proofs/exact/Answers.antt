@@ -1,0 +1,5 @@
+use Rattle.models.proofs.Outcomes.{exact}
+use Rattle.models.proofs.exact.Needs as need
+
+pub returns : need.returns
+returns g c = exact (g .C·Cells .rules) (g .C .Denot)
