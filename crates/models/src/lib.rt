@@ -13,9 +13,9 @@ pub use simulated::Cut;
 pub use simulated::Simulated;
 pub use simulated::SimulatedMemory;
 
-pub type Flash<'a> = Simulated<'a, FlashCells>;
+pub type Flash<'b, 'c> = Simulated<'b, 'c, FlashCells>;
 
-pub type Fram<'a> = Simulated<'a, FramCells>;
+pub type Fram<'b, 'c> = Simulated<'b, 'c, FramCells>;
 
 // Every list of changes has one outcome: the bytes, the counters, the supply and the end are the ones that the definitions give.
 pub fn exact<C: Cells>()

@@ -26,18 +26,18 @@ enum Fate {
 }
 
 #[derive(Drop)]
-pub struct Simulated<'a, C> {
-    bytes: &'a mut [u8],
-    cuts: &'a [Cut],
+pub struct Simulated<'b, 'c, C> {
+    bytes: &'b mut [u8],
+    cuts: &'c [Cut],
     next: usize,
     finished: u32,
     on: bool,
     cells: PhantomData<C>,
 }
 
-impl<'a, C> Simulated<'a, C> {
+impl<'b, 'c, C> Simulated<'b, 'c, C> {
     // Over the caller's bytes and cuts, with the supply on.
-    pub fn new(bytes: &'a mut [u8], cuts: &'a [Cut]) -> Simulated<'a, C>
+    pub fn new(bytes: &'b mut [u8], cuts: &'c [Cut]) -> Simulated<'b, 'c, C>
         ensures { λ r. ⌜ Fresh (bytes .entry) (cuts .entry) r ⌝ }
     {
         Simulated {
@@ -84,7 +84,7 @@ fn room_of(length: usize) -> usize
     512 * (length / 512).min(105)
 }
 
-pub impl<'a, C: Cells> Memory for Simulated<'a, C> as SimulatedMemory {
+pub impl<'b, 'c, C: Cells> Memory for Simulated<'b, 'c, C> as SimulatedMemory {
     ghost make = { simulated (C·Cells .rules) };
 
     ghost laws = { simulated-laws (C·Cells .rules) (C·Cells .sound) };

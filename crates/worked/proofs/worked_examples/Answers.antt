@@ -4,4 +4,11 @@ use Rattle.worked.proofs.worked_examples.Needs as need
 
 pub returns : need.returns
 unfolding shifts fed
-returns c = record { ccitt-digits = refl; crc8-digits = refl; ccitt-erase-all = refl; ccitt-jump = refl }
+returns c = record {
+  ccitt-digits = refl;
+  crc8-digits = refl;
+  ccitt-erase-all = refl;
+  ccitt-jump = refl;
+  flash-mix = refl;
+  fram-mix = refl;
+}
