@@ -61,7 +61,7 @@ pub fn torn_erase() -> ([u8; 512], [u8; 512])
 // A segment full of 0x05, erased with no cut, and three bytes written.
 pub fn whole_run() -> ([u8; 512], [u8; 512])
     ensures flash { λ r. ⌜ r .0 ≡ set (set (set (replicate 512 0xFF) 3 1) 4 2) 5 3 ⌝ }
-    ensures fram { λ r. ⌜ r .1 ≡ set (set (set (replicate 512 0xFF) 3 1) 4 2) 5 3 ⌝ }
+    ensures fram { λ r. ⌜ r .1 ≡ set (set (set (replicate 512 0xFF) 3 4) 4 5) 5 6 ⌝ }
 {
     let cuts: [Cut; 0] = [];
     let mut flash = [0x05; 512];
@@ -74,7 +74,7 @@ pub fn whole_run() -> ([u8; 512], [u8; 512])
     {
         let mut memory = Fram::new(&mut fram, &cuts);
         let _ = erase_all(&mut memory, 0, 1);
-        let _ = write_all(&mut memory, 3, &[1, 2, 3]);
+        let _ = write_all(&mut memory, 3, &[4, 5, 6]);
     }
     (flash, fram)
 }
