@@ -1,4 +1,4 @@
--- Flash and FRAM show what a technology has to show.
+-- Proof: flash and FRAM show what a technology has to show.
 use mathlib.Core.Path.{_≡_, refl, sym, ap, _∙_}
 use mathlib.Core.List.{List}
 use Prim.Native.Nat.{ℕ, _%_, _<_}
