@@ -68,6 +68,32 @@ erases-within lo hi segment zero a b = tt
 erases-within lo hi segment (suc n) a b =
     ((a, omega arith), erases-within lo hi (segment + 1) n (omega arith) (omega arith))
 
+-- an empty list changes nothing
+pub nothing-ran : {M : Type 0} {make : Make M} {m n : M} {r : End} → Ran make [] m n r → (n ≡ m) × (r ≡ Ok tt)
+nothing-ran (none e a) = (e, a)
+
+-- the same run, of an equal list or with an equal end
+module _ {M : Type 0} {make : Make M} {m n : M} where
+  pub ran-as : {cs ds : List Change} {r : End} → cs ≡ ds → Ran make cs m n r → Ran make ds m n r
+  ran-as {r = r} = subst (λ cs. Ran make cs m n r)
+
+  pub ran-to : {cs : List Change} {r q : End} → r ≡ q → Ran make cs m n r → Ran make cs m n q
+  ran-to {cs = cs} = subst (λ r. Ran make cs m n r)
+
+-- a list in two parts stops in the first, or goes on to the second
+pub data Split {M : Type 0} (make : Make M) (cs ds : List Change) (m n : M) (r : End) : Type 0 where
+  early : (f : Fault) → r ≡ Err f → Ran make cs m n r → Split make cs ds m n r
+  late : {o : M} → Ran make cs m o (Ok tt) → Ran make ds o n r → Split make cs ds m n r
+
+pub split : {M : Type 0} {make : Make M} (cs ds : List Change) {m n : M} {r : End} → Ran make (cs ++ ds) m n r → Split make cs ds m n r
+split [] ds h = late (none refl refl) h
+split (c ∷ cs) ds (stop f h a) = early f a (stop f h a)
+split {make = make} (c ∷ cs) ds {m} {n} {r} (more {n = o} h rest) = step (split cs ds rest)
+  where
+    step : Split make cs ds o n r → Split make (c ∷ cs) ds m n r
+    step (early f e u) = early f e (more h u)
+    step (late u v) = late (more h u) v
+
 module _ {M : Type 0} {make : Make M} (laws : Laws make) where
   abbrev known : M → State
   known = make .state
@@ -78,7 +104,13 @@ module _ {M : Type 0} {make : Make M} (laws : Laws make) where
       let law = laws .lawful m in
       omega (arith, changed-fits (laws .change c m n (Ok tt) h), law .few, law .whole)
 
-  -- a list leaves every place outside its changes as it was
+  -- a list leaves the size as it was
+  pub ran-size : {cs : List Change} {m n : M} {r : End} → Ran make cs m n r → size (known n) ≡ size (known m)
+  ran-size (none e a) = ap (λ v. size (known v)) e
+  ran-size (stop {c = c} {m = m} {n = n} f h a) = changed-apart (laws .change c m n _ h) .size
+  ran-size (more {c = c} {m = m} {n = n} h rest) = ran-size rest ∙ changed-apart (laws .change c m n _ h) .size
+
+  -- and every place outside its changes
   pub ran-apart : {cs : List Change} {m n : M} {r : End} → Ran make cs m n r → (lo hi : ℕ) → Within lo hi cs
       → Apart lo hi (known m) (known n)
   ran-apart (none e a) lo hi w = apart-same (ap known e)

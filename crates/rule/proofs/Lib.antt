@@ -1,0 +1,5 @@
+pub mod Areas
+pub mod Mend
+pub mod Steps
+pub mod Runs
+pub mod Frames
