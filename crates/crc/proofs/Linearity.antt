@@ -35,6 +35,19 @@ poly-xor p (suc (suc s)) t hs ht = omega arith
 poly-lt : (w p bit : ℕ) → p < 2 ^ w → poly p bit < 2 ^ w
 poly-lt w p bit h = cond-both (eqb bit 0) 0 p (λ x. x < 2 ^ w) (λ _. pow-pos w) (λ _. h)
 
+shifted-low : (w p b : ℕ) → b * 2 < 2 ^ w → shifted w p b ≡ b * 2
+shifted-low w p b h =
+    ap₂ (λ (x y : ℕ). bitXor x (poly p y)) (mod-eq-of-lt h) (div-eq-of-lt h) ∙ xor-zero-r (b * 2)
+
+pub shifts-low : (w p n b : ℕ) → b * 2 ^ n < 2 ^ w → shifts w p n b ≡ b * 2 ^ n
+unfolding shifts
+shifts-low w p zero b h = omega arith
+shifts-low w p (suc n) b h =
+    let e : b * 2 ^ suc n ≡ b * 2 * 2 ^ n = ap (λ (x : ℕ). b * x) (pow-succ' 2 n) ∙ sym (mul-assoc b 2 (2 ^ n)) in
+    let l : b * 2 * 2 ^ n < 2 ^ w = omega arith in
+    let m : b * 2 ≤ b * 2 * 2 ^ n = le-mul-of-pos-right (b * 2) (pow-pos n) in
+    ap (shifts w p n) (shifted-low w p b (omega arith)) ∙ shifts-low w p n (b * 2) l ∙ sym e
+
 module _ (w p : ℕ) (fits : p < 2 ^ w) where
   top : (a : ℕ) → a < 2 ^ w → a * 2 / 2 ^ w < 2
   top a h = div-below (a * 2) (2 ^ w) 2 (pow-pos w) (omega arith)
@@ -55,19 +68,6 @@ module _ (w p : ℕ) (fits : p < 2 ^ w) where
   shifts-xor (suc n) a b ha hb =
       ap (shifts w p n) (shifted-xor a b ha hb) ∙ shifts-xor n (shifted w p a) (shifted w p b) (shifted-lt a) (shifted-lt b)
 
-  shifted-low : (b : ℕ) → b * 2 < 2 ^ w → shifted w p b ≡ b * 2
-  shifted-low b h =
-      ap₂ (λ (x y : ℕ). bitXor x (poly p y)) (mod-eq-of-lt h) (div-eq-of-lt h) ∙ xor-zero-r (b * 2)
-
-  pub shifts-low : (n b : ℕ) → b * 2 ^ n < 2 ^ w → shifts w p n b ≡ b * 2 ^ n
-  unfolding shifts
-  shifts-low zero b h = omega arith
-  shifts-low (suc n) b h =
-      let e : b * 2 ^ suc n ≡ b * 2 * 2 ^ n = ap (λ (x : ℕ). b * x) (pow-succ' 2 n) ∙ sym (mul-assoc b 2 (2 ^ n)) in
-      let l : b * 2 * 2 ^ n < 2 ^ w = omega arith in
-      let m : b * 2 ≤ b * 2 * 2 ^ n = le-mul-of-pos-right (b * 2) (pow-pos n) in
-      ap (shifts w p n) (shifted-low b (omega arith)) ∙ shifts-low n (b * 2) l ∙ sym e
-
 -- A byte is fed by one look at a table of 256 entries, which has at x the register after eight shifts of x in its upper bits.
 pub fed-by-table : (k p r byte : ℕ) → p < 2 ^ (k + 8) → r < 2 ^ (8 + k) → byte < 2 ^ 8
     → fed (k + 8) p r byte ≡ bitXor (r * 256 % 2 ^ (k + 8)) (shifts (k + 8) p 8 (bitXor (r / 2 ^ k) byte * 2 ^ k))
@@ -86,7 +86,7 @@ fed-by-table k p r byte hp hr hb =
     ∙ xor-comm _ lo in
     let lo8 : lo * 2 ^ 8 < 2 ^ (k + 8) = shl-below lo k 8 lo< in
     let low : shifts (k + 8) p 8 lo ≡ r * 256 % 2 ^ (k + 8) =
-    shifts-low (k + 8) p hp 8 lo lo8
+    shifts-low (k + 8) p 8 lo lo8
     ∙ sym (mod-pow-add (r * 256) k 8 ∙ ap₂ (λ (x y : ℕ). x % 2 ^ k * 256 + y) (shl-shr r 8) (mul-mod-left r 256) ∙ add-zero _) in
     ap (λ (n : ℕ). shifts (k + 8) p 8 (bitXor r (byte * 2 ^ n))) width
     ∙ ap (shifts (k + 8) p 8) split

@@ -1,6 +1,4 @@
 // CRC-CCITT: a register of 16 bits, polynomial 0x1021, start 0xFFFF, a byte at a time by a table.
-ghost use mathlib.Core.Path.{_≡_};
-ghost use Prim.Native.Nat.{ℕ, _+_, _<_};
 ghost use Rattle.crc.specs.Register.{fed};
 use crate::Checksum;
 

@@ -1,9 +1,7 @@
 -- What an image check is: three functions, and the lists of bytes that they accept.
-use mathlib.Core.Path.{_≡_}
-use mathlib.Core.Bool.{Bool, true}
+use mathlib.Core.Bool.{Bool}
 use mathlib.Core.List.{List}
-use Prim.Native.Nat.{ℕ, _≤_}
-use lib.ListN.{length}
+use Prim.Native.Nat.{ℕ}
 use Rattle.std.specs.Iters.{folded}
 
 -- a starting state, a step for each byte, and a yes or no of a state

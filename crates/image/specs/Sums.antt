@@ -18,6 +18,16 @@ use Rattle.image.specs.declared.crc8.Crc8State.the-variants as B
 abbrev pub word : (low high : ℕ) → ℕ
 word low high = low + 256 * high
 
+-- how many bytes the stored sum of each check has, at the start of an image
+abbrev pub ccitt-stored : ℕ
+ccitt-stored = 2
+
+abbrev pub crc8-stored : ℕ
+crc8-stored = 1
+
+abbrev pub vector-stored : ℕ
+vector-stored = 0
+
 -- the first two bytes, low byte first, are the CRC-CCITT sum of all later bytes
 abbrev pub Holds-ccitt : List ℕ → Type 0
 Holds-ccitt image = (2 ≤ length image) × (word (getD image 0 0) (getD image 1 0) ≡ ccitt (drop 2 image))
@@ -63,8 +73,8 @@ Needs-its-sum check n = (image : List ℕ) → accepted check image ≡ true →
 -- what each check accepts, told with no state
 pub record Meanings : Type 0 where
   pub ccitt-means : (image : List ℕ) → (accepted ccitt-check image ≡ true) ↔ Holds-ccitt image
-  pub ccitt-needs : Needs-its-sum ccitt-check 2
+  pub ccitt-needs : Needs-its-sum ccitt-check ccitt-stored
   pub crc8-means : (image : List ℕ) → (accepted crc8-check image ≡ true) ↔ Holds-crc8 image
-  pub crc8-needs : Needs-its-sum crc8-check 1
+  pub crc8-needs : Needs-its-sum crc8-check crc8-stored
   pub vector-means : (image : List ℕ) → accepted vector-check image ≡ true
-  pub vector-needs : Needs-its-sum vector-check 0
+  pub vector-needs : Needs-its-sum vector-check vector-stored

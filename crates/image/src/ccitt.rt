@@ -1,8 +1,5 @@
 // An image whose first two bytes, low byte first, are the CRC-CCITT sum of all later bytes.
-ghost use mathlib.Core.Path.{_≡_};
-ghost use Prim.Native.Nat.{ℕ, _+_, _<_};
-ghost use Rattle.image.specs.Check.{Check};
-ghost use Rattle.image.specs.Sums.{ccitt-check};
+ghost use Rattle.image.specs.Sums.{ccitt-check, ccitt-stored};
 use crate::ImageCheck;
 use crc::Checksum;
 use crc::CrcCcitt;
@@ -24,7 +21,7 @@ pub impl ImageCheck for CcittCheck as CcittCheckImageCheck {
 
     const SUM_LENGTH: usize = 2;
 
-    ghost stored = { 2 };
+    ghost stored = { ccitt-stored };
 
     ghost check = { ccitt-check };
 

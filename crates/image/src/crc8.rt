@@ -1,8 +1,5 @@
 // An image whose first byte is the CRC-8 sum of all later bytes.
-ghost use mathlib.Core.Path.{_≡_};
-ghost use Prim.Native.Nat.{ℕ, _+_, _<_};
-ghost use Rattle.image.specs.Check.{Check};
-ghost use Rattle.image.specs.Sums.{crc8-check};
+ghost use Rattle.image.specs.Sums.{crc8-check, crc8-stored};
 use crate::ImageCheck;
 use crc::Checksum;
 use crc::Crc8;
@@ -23,7 +20,7 @@ pub impl ImageCheck for Crc8Check as Crc8CheckImageCheck {
 
     const SUM_LENGTH: usize = 1;
 
-    ghost stored = { 1 };
+    ghost stored = { crc8-stored };
 
     ghost check = { crc8-check };
 

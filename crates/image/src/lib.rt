@@ -93,6 +93,6 @@ pub fn startable<C: ImageCheck>(area: &[u8]) -> bool
 }
 
 // What each of the three checks accepts, and that none accepts an image that is shorter than its stored sum.
-pub fn meanings()
+pub fn checks_accept_by_their_sums()
     ensures { λ _. ⌜ Meanings ⌝ }
 {}

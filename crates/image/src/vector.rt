@@ -1,8 +1,5 @@
 // An image with no stored sum: every list is accepted, and only the entry decides.
-ghost use mathlib.Core.Path.{_≡_};
-ghost use Prim.Native.Nat.{ℕ};
-ghost use Rattle.image.specs.Check.{Check};
-ghost use Rattle.image.specs.Sums.{vector-check};
+ghost use Rattle.image.specs.Sums.{vector-check, vector-stored};
 use crate::ImageCheck;
 
 #[derive(Drop)]
@@ -13,7 +10,7 @@ pub impl ImageCheck for VectorOnly as VectorOnlyImageCheck {
 
     const SUM_LENGTH: usize = 0;
 
-    ghost stored = { 0 };
+    ghost stored = { vector-stored };
 
     ghost check = { vector-check };
 

@@ -1,8 +1,9 @@
 // Reads an application image from standard input. It tells its length, its sums, its entry and whether a controller may start it,
 // or, with the word `seal`, writes it back with its stored CRC-CCITT sum put right.
-use hex::HexWord;
-use hex::HexWordDisplay;
+use inspect::Misuse;
+use inspect::MisuseError;
 use inspect::ReportDisplay;
+use inspect::SealedDisplay;
 use inspect::Task;
 use inspect::TooShortError;
 use std::env;
@@ -26,10 +27,8 @@ fn asked(rt: &LibcRuntime) -> Result<Task, AnyError> {
     };
     match (Task::named(word.as_str()), words.next()) {
         (Some(task), None) => Ok(task),
-        (Some(_), Some(_)) =>
-            Err("one word at most: inspect or seal; nothing was read or written".into()),
-        (None, _) =>
-            Err("unknown word; write inspect, seal or nothing; nothing was read or written".into()),
+        (Some(_), Some(_)) => Err(Misuse::TooManyWords.into()),
+        (None, _) => Err(Misuse::UnknownWord.into()),
     }
 }
 
@@ -48,7 +47,6 @@ fn run(rt: &LibcRuntime) -> Result<(), AnyError> {
 fn seal(rt: &LibcRuntime, image: &mut [u8]) -> Result<(), AnyError> {
     let sealed = inspect::seal(image);
     rt.stdout().write_all(image)?;
-    let sum = HexWord(sealed?);
-    eprintln!(rt, "sealed with the CRC-CCITT sum 0x{sum}")?;
+    rt.eprintln(sealed?)?;
     Ok(())
 }

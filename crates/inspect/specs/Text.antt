@@ -9,6 +9,8 @@ use Rattle.inspect.specs.declared.Field.{Field}
 use Rattle.inspect.specs.declared.Field.the-variants as F
 use Rattle.inspect.specs.declared.Verdict.{Verdict}
 use Rattle.inspect.specs.declared.Verdict.the-variants as V
+use Rattle.inspect.specs.declared.Misuse.{Misuse}
+use Rattle.inspect.specs.declared.Misuse.the-variants as M
 use Rattle.inspect.specs.declared.Report.{Report}
 
 abbrev pub field-text : Field → List ℕ
@@ -21,6 +23,10 @@ verdict-text V.Startable = codes "yes"
 verdict-text V.NoEntry = codes "no, the image is too short for an entry"
 verdict-text V.ErasedEntry = codes "no, the entry is erased"
 verdict-text V.WrongSum = codes "no, the stored sum is wrong"
+
+abbrev pub misuse-text : Misuse → List ℕ
+misuse-text M.UnknownWord = codes "unknown word; write inspect, seal or nothing; nothing was read or written"
+misuse-text M.TooManyWords = codes "one word at most, inspect or seal; nothing was read or written"
 
 -- one fact a line: what it is called, and its value
 abbrev pub lines : List (String × List ℕ) → List ℕ

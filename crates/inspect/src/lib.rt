@@ -19,7 +19,10 @@ use image::VectorOnlyImageCheck;
 mod text;
 
 pub use text::FieldDisplay;
+pub use text::MisuseDisplay;
+pub use text::MisuseError;
 pub use text::ReportDisplay;
+pub use text::SealedDisplay;
 pub use text::TooShortDisplay;
 pub use text::TooShortError;
 pub use text::VerdictDisplay;
@@ -71,6 +74,17 @@ pub enum Task {
     Inspect,
     Seal,
 }
+
+// Words that name no task.
+#[derive(Clone, Copy, Debug)]
+pub enum Misuse {
+    UnknownWord,
+    TooManyWords,
+}
+
+// The sum that an image was sealed with.
+#[derive(Clone, Copy)]
+pub struct Sealed(pub u16);
 
 // An image of fewer than two bytes has no room for a stored CRC-CCITT sum.
 #[derive(Clone, Copy, Debug)]
@@ -156,7 +170,7 @@ pub fn inspect(image: &[u8]) -> Report
 }
 
 // Puts the stored CRC-CCITT sum right, and tells it.
-pub fn seal(image: &mut [u8]) -> Result<u16, TooShort>
+pub fn seal(image: &mut [u8]) -> Result<Sealed, TooShort>
     ensures { λ r. ⌜ Seals (now (image .entry)) (now (image .exit)) r ⌝ }
 {
     if image.len() < 2 {
@@ -166,5 +180,5 @@ pub fn seal(image: &mut [u8]) -> Result<u16, TooShort>
     let [low, high] = sum.to_le_bytes();
     image[0] = low;
     image[1] = high;
-    Ok(sum)
+    Ok(Sealed(sum))
 }

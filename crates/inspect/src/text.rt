@@ -1,9 +1,14 @@
-// A report in words that a fitter understands, one fact a line.
+// A report in plain words, one fact a line.
 ghost use Rattle.std.specs.declared.option.Option.the-variants.{Some};
 ghost use lib.Chars.{codes};
-ghost use Rattle.inspect.specs.Text.{field-text, verdict-text, report-text};
+ghost use mathlib.Core.List.{_++_};
+ghost use Rattle.hex.specs.Digits.{word-digits};
+ghost use Rattle.inspect.specs.Text.{field-text, verdict-text, misuse-text, report-text};
 use crate::Field;
+use crate::Misuse;
+use crate::MisuseDebug;
 use crate::Report;
+use crate::Sealed;
 use crate::TooShort;
 use crate::TooShortDebug;
 use crate::Verdict;
@@ -62,6 +67,34 @@ pub impl fmt::Display for Report as ReportDisplay {
             f,
             "length in bytes: {length}\nCRC-CCITT sum of all bytes after the first two: {ccitt}\nstored CRC-CCITT sum, the first two bytes: {stored_ccitt}\nCRC-8 sum of all bytes after the first: {crc8}\nstored CRC-8 sum, the first byte: {stored_crc8}\nentry, the last two bytes: {entry}\nmay be started, checked by CRC-CCITT: {by_ccitt}\nmay be started, checked by CRC-8: {by_crc8}\nmay be started, by its entry only: {by_vector}\n"
         )
+    }
+}
+
+pub impl fmt::Display for Misuse as MisuseDisplay {
+    ghost shown = { λ x. Some (misuse-text x) };
+
+    fn fmt<W: fmt::Write>(&self, f: &mut fmt::Formatter<W>) -> fmt::Result {
+        match *self {
+            Misuse::UnknownWord => write!(
+                f,
+                "unknown word; write inspect, seal or nothing; nothing was read or written"
+            ),
+            Misuse::TooManyWords => write!(
+                f,
+                "one word at most, inspect or seal; nothing was read or written"
+            ),
+        }
+    }
+}
+
+pub impl Error for Misuse as MisuseError {}
+
+pub impl fmt::Display for Sealed as SealedDisplay {
+    ghost shown = { λ x. Some (codes "sealed with the CRC-CCITT sum 0x" ++ word-digits (x .0)) };
+
+    fn fmt<W: fmt::Write>(&self, f: &mut fmt::Formatter<W>) -> fmt::Result {
+        let sum = HexWord(self.0);
+        write!(f, "sealed with the CRC-CCITT sum 0x{sum}")
     }
 }
 

@@ -5,14 +5,15 @@ use mathlib.Core.List.{List, [], _∷_, _++_}
 use Prim.Native.Nat.{ℕ, zero, suc, _+_, _*_, _≤_, _<_}
 use native.Mathlib.Omega.{arith}
 use native.Mathlib.Nat.{add-zero}
-use lib.ListN.{length, getD}
+use lib.ListN.{length, getD, take}
 use Rattle.std.specs.declared.result.Result.the-variants.{Ok, Err}
 use Rattle.std.proofs.shelf.Tests.{cases-lt}
 use Rattle.memory.specs.State.{State, size, at, Lawful}
 use Rattle.memory.specs.Change.{Change, write, erase, first, span, left, End, Apart, Changed, past, off, finished, torn}
 use Rattle.memory.specs.Make.{Make, Laws}
-use Rattle.memory.specs.Ran.{Ran, none, stop, more, writes, erases, Within, Stands, Erased, Wrote, Cleared}
+use Rattle.memory.specs.Ran.{Ran, none, stop, more, writes, erases, Within, Written, Erased, Writing-lost, Erasing-lost, Wrote, Cleared}
 use Rattle.memory.specs.declared.Fault.{Fault}
+use Rattle.memory.specs.declared.Fault.the-variants.{SupplyLost}
 
 -- a finished end is no refusal
 pub not-refused : {A : Type 0} {f : Fault} {r : End} → r ≡ Ok tt → r ≡ Err f → A
@@ -119,50 +120,130 @@ module _ {M : Type 0} {make : Make M} (laws : Laws make) where
   ran-apart (more {c = c} {m = m} {n = n} h rest) lo hi w =
       apart-then (apart-wider (w .0 .0) (w .0 .1) (changed-apart (laws .change c m n _ h))) (ran-apart rest lo hi (w .1))
 
-  -- bytes written over erased places stand there
-  stand : (bytes : List ℕ) (place : ℕ) {m n : M} {r : End} → ((i : ℕ) → getD bytes i 0 < 256)
-      → Ran make (writes place bytes) m n r → r ≡ Ok tt → Stands place bytes (known m) (known n)
-  stand [] place small h ok blank i lt = let never : ⊥ = omega arith in absurd never
-  stand (byte ∷ bytes) place small (stop f h a) ok blank i lt = not-refused ok a
-  stand (byte ∷ bytes) place {m} {n} small (more {n = o} h rest) ok blank zero lt =
+  -- one write more before the others
+  written-more : (place byte : ℕ) (bytes : List ℕ) (m o n : M) → make .changes (write place byte) m o (Ok tt)
+      → at (known n) place ≡ at (known o) place → Written (place + 1) bytes (known o) (known n) → Written place (byte ∷ bytes) (known m) (known n)
+  written-more place byte bytes m o n h kept rest zero lt =
       let c = laws .change (write place byte) m o (Ok tt) h in
-      let was : at (known m) place ≡ 0xFF = subst (λ q. at (known m) q ≡ 0xFF) (add-zero place) (blank 0 (omega arith)) in
-      let after = writes-within (place + 1) (place + 1 + length bytes) (place + 1) bytes (omega arith) (omega arith) in
       ap (at (known n)) (add-zero place)
-      ∙ ran-apart rest (place + 1) (place + 1 + length bytes) after .outside place (inl (omega arith))
+      ∙ kept
       ∙ changed-left c place (omega arith) (omega arith)
-      ∙ ap (λ old. known m .mix old byte) was
-      ∙ laws .lawful m .erased byte (small 0)
-  stand (byte ∷ bytes) place {m} {n} small (more {n = o} h rest) ok blank (suc i) lt =
-      let next : (j : ℕ) → place + 1 + j ≡ place + suc j = λ j. omega arith in
+      ∙ ap (λ q. known m .mix (at (known m) q) byte) (sym (add-zero place))
+  written-more place byte bytes m o n h kept rest (suc i) lt =
       let aside = changed-apart (laws .change (write place byte) m o (Ok tt) h) in
-      let blank′ : (j : ℕ) → j < length bytes → at (known o) (place + 1 + j) ≡ 0xFF =
-      λ j l. aside .outside (place + 1 + j) (inr (omega arith)) ∙ ap (at (known m)) (next j) ∙ blank (suc j) (omega arith) in
-      ap (at (known n)) (sym (next i)) ∙ stand bytes (place + 1) (λ j. small (suc j)) rest ok blank′ i (omega arith)
+      let next : place + 1 + i ≡ place + suc i = omega arith in
+      ap (at (known n)) (sym next)
+      ∙ rest i (omega arith)
+      ∙ (λ k. aside .mix k (aside .outside (place + 1 + i) (inr (omega arith)) k) (getD bytes i 0))
+      ∙ ap (λ q. known m .mix (at (known m) q) (getD bytes i 0)) next
 
-  -- segments that were erased read erased
+  -- what comes after a place leaves it alone
+  writes-above : (place : ℕ) (bytes : List ℕ) {m n : M} {r : End} → Ran make (writes (place + 1) bytes) m n r
+      → at (known n) place ≡ at (known m) place
+  writes-above place bytes h =
+      ran-apart h (place + 1) (place + 1 + length bytes) (writes-within (place + 1) _ (place + 1) bytes (omega arith) (omega arith)) .outside place (inl (omega arith))
+
+  all-written : (bytes : List ℕ) (place : ℕ) {m n : M} {r : End}
+      → Ran make (writes place bytes) m n r → r ≡ Ok tt → Written place bytes (known m) (known n)
+  all-written [] place h ok i lt = let never : ⊥ = omega arith in absurd never
+  all-written (byte ∷ bytes) place (stop f h a) ok i lt = not-refused ok a
+  all-written (byte ∷ bytes) place {m} {n} (more {n = o} h rest) ok i lt =
+      written-more place byte bytes m o n h (writes-above place bytes rest) (all-written bytes (place + 1) rest ok) i lt
+
+  -- the place at which the supply was lost
+  lost-at : {c : Change} {m n : M} {r : End} (p : ℕ) → make .changes c m n r → r ≡ Err (SupplyLost p) → p ≡ first c
+  lost-at {c} {m} {n} {r} p h is = by (laws .change c m n r h)
+    where
+      by : Changed c (known m) (known n) r → p ≡ first c
+      by (past x e a) = let z : _≡_ {A = ℕ} 0 1 = cc in let never : ⊥ = omega arith in absurd never
+      by (off x y e a) = cc
+      by (finished x y u b w a) = not-refused a is
+      by (torn x y u b a) = cc
+
+  writing-lost : (bytes : List ℕ) (place : ℕ) {m n : M} {r : End} (p : ℕ)
+      → Ran make (writes place bytes) m n r → r ≡ Err (SupplyLost p) → Writing-lost place bytes p (known m) (known n)
+  writing-lost [] place p (none e a) is = not-refused a is
+  writing-lost (byte ∷ bytes) place {m} {n} p (stop f h a) is =
+      let here : p ≡ place = lost-at p h is in
+      record {
+        count = 0;
+        here = omega arith;
+        within = omega arith;
+        written = λ i lt. let never : ⊥ = omega arith in absurd never;
+        later = λ q lt. changed-apart (laws .change (write place byte) m n _ h) .outside q (inr (omega arith));
+      }
+  writing-lost (byte ∷ bytes) place {m} {n} p (more {n = o} h rest) is =
+      let next = writing-lost bytes (place + 1) p rest is in
+      let here : p ≡ place + 1 + next .count = next .here in
+      record {
+        count = suc (next .count);
+        here = omega arith;
+        within = omega (arith, next .within);
+        written = written-more place byte (take (next .count) bytes) m o n h (writes-above place bytes rest) (next .written);
+        later = λ q lt. next .later q lt ∙ changed-apart (laws .change (write place byte) m o (Ok tt) h) .outside q (inr (omega arith));
+      }
+
+  -- one segment more before the others
+  erased-more : (segment n : ℕ) (m o k : M) → make .changes (erase segment) m o (Ok tt)
+      → ((q : ℕ) → q < 512 * (segment + 1) → at (known k) q ≡ at (known o) q) → Erased (segment + 1) n (known k) → Erased segment (suc n) (known k)
+  erased-more segment n m o k h kept rest q l u =
+      ⊎-elim
+      (λ here. kept q (omega arith) ∙ changed-left (laws .change (erase segment) m o (Ok tt) h) q l (omega arith))
+      (λ above. rest q (omega arith) (omega arith))
+      (cases-lt q (512 * segment + 512))
+
+  erases-above : (segment n : ℕ) {m o : M} {r : End} → Ran make (erases (segment + 1) n) m o r
+      → (q : ℕ) → q < 512 * (segment + 1) → at (known o) q ≡ at (known m) q
+  erases-above segment n h q lt =
+      ran-apart h (512 * (segment + 1)) (512 * (segment + 1 + n)) (erases-within _ _ (segment + 1) n (omega arith) (omega arith)) .outside q (inl lt)
+
   all-erased : (n segment : ℕ) {m o : M} {r : End} → Ran make (erases segment n) m o r → r ≡ Ok tt → Erased segment n (known o)
   all-erased zero segment h ok q l u = let never : ⊥ = omega arith in absurd never
   all-erased (suc n) segment (stop f h a) ok q l u = not-refused ok a
   all-erased (suc n) segment {m} {o} (more {n = k} h rest) ok q l u =
-      ⊎-elim
-      (λ here.
-      ran-apart rest (512 * (segment + 1)) (512 * (segment + 1 + n)) (erases-within _ _ (segment + 1) n (omega arith) (omega arith)) .outside q (inl (omega arith))
-      ∙ changed-left (laws .change (erase segment) m k (Ok tt) h) q l (omega arith))
-      (λ later. all-erased n (segment + 1) rest ok q (omega arith) (omega arith))
-      (cases-lt q (512 * segment + 512))
+      erased-more segment n m k o h (erases-above segment n rest) (all-erased n (segment + 1) rest ok) q l u
 
-  pub wrote : (place : ℕ) (bytes : List ℕ) {m n : M} {r : End} → ((i : ℕ) → getD bytes i 0 < 256)
-      → Ran make (writes place bytes) m n r → Wrote make place bytes m n r
-  wrote place bytes small h = record {
+  erasing-lost : (n segment : ℕ) {m o : M} {r : End} (p : ℕ)
+      → Ran make (erases segment n) m o r → r ≡ Err (SupplyLost p) → Erasing-lost segment n p (known m) (known o)
+  erasing-lost zero segment p (none e a) is = not-refused a is
+  erasing-lost (suc n) segment {m} {o} p (stop f h a) is =
+      let here : p ≡ 512 * segment = lost-at p h is in
+      record {
+        count = 0;
+        here = omega arith;
+        within = omega arith;
+        erased = λ q l u. let never : ⊥ = omega arith in absurd never;
+        later = λ q lt. changed-apart (laws .change (erase segment) m o _ h) .outside q (inr (omega arith));
+      }
+  erasing-lost (suc n) segment {m} {o} p (more {n = k} h rest) is =
+      let next = erasing-lost n (segment + 1) p rest is in
+      let here : p ≡ 512 * (segment + 1 + next .count) = next .here in
+      record {
+        count = suc (next .count);
+        here = omega arith;
+        within = omega (arith, next .within);
+        erased = erased-more segment (next .count) m k o h (erases-above segment n rest) (next .erased);
+        later = λ q lt. next .later q lt ∙ changed-apart (laws .change (erase segment) m k (Ok tt) h) .outside q (inr (omega arith));
+      }
+
+  -- bytes that were written over erased places stand there
+  pub stand : (place : ℕ) (bytes : List ℕ) (m : M) (t : State) → ((i : ℕ) → getD bytes i 0 < 256) → Written place bytes (known m) t
+      → ((i : ℕ) → i < length bytes → at (known m) (place + i) ≡ 0xFF) → (i : ℕ) → i < length bytes → at t (place + i) ≡ getD bytes i 0
+  stand place bytes m t small w blank i lt =
+      w i lt ∙ ap (λ old. known m .mix old (getD bytes i 0)) (blank i lt) ∙ laws .lawful m .erased (getD bytes i 0) (small i)
+
+  pub wrote : (place : ℕ) (bytes : List ℕ) {m n : M} {r : End} → Ran make (writes place bytes) m n r → Wrote make place bytes m n r
+  wrote place bytes h = record {
     ran = h;
     apart = ran-apart h place (place + length bytes) (writes-within place _ place bytes (omega arith) (omega arith));
-    stands = stand bytes place small h;
+    finished = all-written bytes place h;
+    lost = λ p. writing-lost bytes place p h;
   }
 
   pub cleared : (segment n : ℕ) {m o : M} {r : End} → Ran make (erases segment n) m o r → Cleared make segment n m o r
   cleared segment n h = record {
     ran = h;
     apart = ran-apart h (512 * segment) (512 * (segment + n)) (erases-within _ _ segment n (omega arith) (omega arith));
-    erased = all-erased n segment h;
+    finished = all-erased n segment h;
+    lost = λ p. erasing-lost n segment p h;
   }

@@ -1,5 +1,4 @@
 -- A make of memory, and what each has to show.
-use Prim.Native.Nat.{ℕ}
 use Rattle.memory.specs.State.{State, Lawful}
 use Rattle.memory.specs.Change.{Change, End, Changed, Restored}
 

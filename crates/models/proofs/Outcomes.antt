@@ -26,7 +26,7 @@ pub fresh-is : {C : Type 0} (bytes : RefT (List ℕ)) (cuts : RefT (List Cut)) (
     → m ≡ record { bytes = bytes; cuts = cuts; next = 0; finished = 0; on = true; cells = m .cells }
 fresh-is bytes cuts m f = λ i. record { bytes = f .over i; cuts = f .with i; next = f .next i; finished = f .finished i; on = f .on i; cells = m .cells }
 
--- what a memory is after a list of changes, if it is known what it was
+-- what a memory is after a list of changes, and how they ended, if it is known what it was
 pub ran-from : {C : Type 0} (cells : Cells) (cs : List Change) (m x n : Simulated C) (r : End) → m ≡ x → Ran (simulated cells) cs m n r
-    → n ≡ made cells cs x .0
-ran-from {C} cells cs m x n r e h = ap (λ (p : Simulated C × End). p .0) (exact cells C cs m n r h) ∙ ap (λ y. made cells cs y .0) e
+    → (n, r) ≡ made cells cs x
+ran-from {C} cells cs m x n r e h = exact cells C cs m n r h ∙ ap (made cells cs) e

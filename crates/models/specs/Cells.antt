@@ -11,8 +11,8 @@ pub record Cells : Type 0 where
   pub torn-write : (pattern old new : ℕ) → ℕ
   pub torn-erase : (pattern : ℕ) → List ℕ → List ℕ
 
--- flash can only clear bits: it mixes by AND. A torn write may leave bits of the pattern's low byte uncleared, and a torn erase
--- has set just those
+-- flash can only clear bits: it mixes by AND. A torn write leaves those bits uncleared that the pattern's low byte has, and a torn
+-- erase has set just those
 abbrev pub flash : Cells
 flash = record {
   mix = λ old new. bitAnd old new;

@@ -9,10 +9,8 @@ use lib.Dec.{ltb}
 use lib.ListN.{length, getD, set, take, drop, replicate, length-set, length-replicate, length-take, length-drop}
 use denote.Ref.{now}
 use borrow.Author.Tests.{ltb-true, ltb-false}
-use Rattle.std.specs.declared.result.Result.the-variants.{Ok, Err}
 use Rattle.std.proofs.shelf.Tests.{cond-both, cases-lt}
 use Rattle.std.proofs.shelf.Lists.{getD-set-same, getD-set-other, getD-replicate}
-use Rattle.memory.specs.State.{State, at}
 use Rattle.memory.specs.Change.{Change, write, erase, first, span, left, End, Apart, Changed}
 use Rattle.memory.specs.Change.{past as is-past, off as is-off, finished as is-finished, torn as is-torn}
 use Rattle.memory.specs.Make.{Laws}

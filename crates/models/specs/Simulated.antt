@@ -20,7 +20,7 @@ use Rattle.models.specs.declared.simulated.Simulated.{Simulated}
 
 -- whole segments of 512 bytes, at most 105 of them
 abbrev pub whole : ℕ → ℕ
-whole length = 512 * min 105 (length / 512)
+whole n = 512 * min 105 (n / 512)
 
 -- how many bytes are used; those beyond are never touched
 abbrev pub room : List ℕ → ℕ

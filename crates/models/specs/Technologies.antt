@@ -1,11 +1,10 @@
 -- Proof: flash and FRAM show what a technology has to show.
 use mathlib.Core.Path.{_≡_, refl, sym, ap, _∙_}
-use mathlib.Core.List.{List}
 use Prim.Native.Nat.{ℕ, _%_, _<_}
 use native.Mathlib.Omega.{arith}
 use native.Mathlib.Nat.{mod-eq-of-lt, mod-mod}
 use lib.Bits.{bitAnd}
-use lib.ListN.{length, length-map, length-append, length-replicate, length-drop}
+use lib.ListN.{length-map, length-append, length-replicate, length-drop}
 use Rattle.std.proofs.shelf.Bits.{and-mod, and-le-l, and-comm, and-mask}
 use Rattle.models.specs.Cells.{flash, fram, Sound}
 

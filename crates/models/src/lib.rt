@@ -18,6 +18,6 @@ pub type Flash<'b, 'c> = Simulated<'b, 'c, FlashCells>;
 pub type Fram<'b, 'c> = Simulated<'b, 'c, FramCells>;
 
 // Every list of changes has one outcome: the bytes, the counters, the supply and the end are the ones that the definitions give.
-pub fn exact<C: Cells>()
+pub fn changes_have_one_outcome<C: Cells>()
     ensures { λ _. ⌜ Exact (C·Cells .rules) C ⌝ }
 {}

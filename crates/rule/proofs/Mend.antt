@@ -15,7 +15,7 @@ use Rattle.memory.specs.Change.{Change, erase, End}
 use Rattle.memory.specs.Make.{Make, Laws}
 use Rattle.memory.specs.Ran.{Ran, stop, more, erases, Within}
 use Rattle.memory.proofs.Effects.{not-refused, changed-left, nothing-ran, ran-as, ran-to, Split, early, late, split}
-use Rattle.memory.proofs.Effects.{within-append, erases-within, ran-size, ran-apart, wrote}
+use Rattle.memory.proofs.Effects.{within-append, erases-within, ran-size, ran-apart, stand, wrote}
 use Rattle.layout.specs.Areas.{size as whole-size, part, mark, download, application, boot}
 use Rattle.layout.specs.declared.divided.Layout.{Layout}
 use Rattle.rule.specs.Restart.{copy, copies, clears, mends}
@@ -87,7 +87,7 @@ module _ {M : Type 0} {make : Make M} (laws : Laws make) (l : Layout) where
       let len = part-length from 512 xs long in
       let blank : (j : ℕ) → j < length (part from 512 xs) → at (mem o) (to + j) ≡ 255 =
       λ j lj. changed-left (laws .change _ m o _ h) (to + j) (omega arith) (omega arith) in
-      wrote laws to (part from 512 xs) (part-small from 512 xs long small) t .stands refl blank q (omega arith)
+      stand laws to (part from 512 xs) o (mem n) (part-small from 512 xs long small) (wrote laws to (part from 512 xs) t .finished refl) blank q (omega arith)
       ∙ getD-default (part from 512 xs) q 0 255 (omega arith)
       ∙ part-at from 512 xs q lt
 

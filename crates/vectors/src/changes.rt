@@ -35,7 +35,7 @@ struct Scenario {
     ops: &'static [Op],
 }
 
-fn scenarios() -> [Scenario; 10] {
+fn scenarios() -> [Scenario; 11] {
     [
         Scenario {
             name: "no cut",
@@ -135,7 +135,7 @@ fn scenarios() -> [Scenario; 10] {
         },
         Scenario {
             name: "an erase torn after one change",
-            length: 512,
+            length: 600,
             fill: 0x05,
             cuts: &[Cut {
                 count: 1,
@@ -145,10 +145,23 @@ fn scenarios() -> [Scenario; 10] {
                 Op::Write(0, 0x04),
                 Op::Erase(0),
                 Op::Read(0),
-                Op::Read(17),
-                Op::Read(18),
+                Op::Read(273),
                 Op::Read(274),
-                Op::Read(275),
+                Op::Restore,
+            ],
+        },
+        Scenario {
+            name: "an erase torn and made again",
+            length: 512,
+            fill: 0x05,
+            cuts: &[Cut {
+                count: 0,
+                pattern: 0xFFFF,
+            }],
+            ops: &[
+                Op::Erase(0),
+                Op::Read(510),
+                Op::Read(511),
                 Op::Restore,
                 Op::Erase(0),
             ],
@@ -180,7 +193,6 @@ fn scenarios() -> [Scenario; 10] {
                 Op::Erase(0),
                 Op::Restore,
                 Op::Write(4, 0x01),
-                Op::Erase(0),
             ],
         },
         Scenario {

@@ -1,5 +1,6 @@
 // Cases with values that were published or worked out independently, run through the libraries. What is printed is compared.
 mod changes;
+mod images;
 mod sums;
 
 use std::error::AnyError;
@@ -14,5 +15,6 @@ fn main(rt: LibcRuntime) -> Result<(), AnyError> {
 
 fn run(rt: &LibcRuntime) -> Result<(), AnyError> {
     sums::run(rt)?;
-    changes::run(rt)
+    changes::run(rt)?;
+    images::run(rt)
 }

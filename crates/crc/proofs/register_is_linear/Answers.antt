@@ -4,5 +4,5 @@ use Rattle.crc.proofs.register_is_linear.Needs as need
 pub returns : need.returns
 returns c = record {
   over-xor = λ w p n a b hp ha hb. shifts-xor w p hp n a b ha hb;
-  low-part = λ w p n b hp hb. shifts-low w p hp n b hb;
+  low-part = shifts-low;
 }

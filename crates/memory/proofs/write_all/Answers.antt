@@ -1,9 +1,5 @@
-use mathlib.Core.Path.{_≡_}
 use mathlib.Core.Logic.{inr}
-use Prim.Native.Nat.{ℕ, _<_}
 use native.Mathlib.Omega.{arith}
-use lib.ListN.{getD}
-use borrow.Author.Needs.{needs}
 use Rattle.std.proofs.shelf.Results.{err-from-errBy}
 use Rattle.memory.proofs.Turns.{leads-next, leads-stop, leads-end, writes-next, writes-end}
 use Rattle.memory.proofs.Effects.{finished-low, wrote}
@@ -20,10 +16,10 @@ pub returns-in-Break-write : need.returns-in-Break-write
 returns-in-Break-write g c =
     let p = err-from-errBy (c .from-residual .result) (c .from-residual .ensures .1) in
     rw (p .1, p .2)
-    (wrote (g .M·Memory .laws) (c .args .place) (c .args .bytes .now) (λ i. c .typed .bytes i .fits)
+    (wrote (g .M·Memory .laws) (c .args .place) (c .args .bytes .now)
     (leads-stop _ (writes-next (c .args .place) (c .args .bytes .now) (c .loop-i .i) (omega arith)) (c .loop-i .inv .0) (c .in-Break-write .ensures tt)))
 
 pub returns : need.returns
 returns g c =
-    wrote (g .M·Memory .laws) (c .args .place) (c .args .bytes .now) (λ i. c .typed .bytes i .fits)
+    wrote (g .M·Memory .laws) (c .args .place) (c .args .bytes .now)
     (leads-end (writes-end (c .args .place) (c .args .bytes .now) (c .loop-i .i) (omega arith)) (c .loop-i .inv .0))

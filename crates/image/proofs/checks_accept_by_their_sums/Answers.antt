@@ -1,7 +1,7 @@
 use mathlib.Core.Path.{refl}
 use native.Mathlib.Omega.{arith}
 use Rattle.image.proofs.Stored.{ccitt-means, crc8-means}
-use Rattle.image.proofs.meanings.Needs as need
+use Rattle.image.proofs.checks_accept_by_their_sums.Needs as need
 
 pub returns : need.returns
 returns c = record {
