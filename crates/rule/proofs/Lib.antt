@@ -2,4 +2,4 @@ pub mod Areas
 pub mod Mend
 pub mod Steps
 pub mod Runs
-pub mod Frames
+pub mod Jumps

@@ -5,3 +5,4 @@ pub mod Rule
 pub mod Frame
 pub mod Command
 pub mod Frames
+pub mod FramesLaw

@@ -7,8 +7,22 @@ unfolding shifts fed
 returns c = record {
   ccitt-digits = refl;
   crc8-digits = refl;
-  ccitt-erase-all = refl;
+  ccitt-erase-app = refl;
   ccitt-jump = refl;
   flash-mix = refl;
   fram-mix = refl;
+  boot-address = refl;
+  application-address = refl;
+  download-address = refl;
+  status-address = refl;
+  erase-app = refl;
+  wrong-sum = refl;
+  length-zero = refl;
+  length-twenty = refl;
+  no-header = refl;
+  erase-segment = refl;
+  erase-answer = refl;
+  erased-from = refl;
+  erased-below = refl;
+  wrong-address = refl;
 }

@@ -1,4 +1,4 @@
--- The bus of frames shows the law, and its jumps are told by their answer.
+-- Proof: the bus of frames shows the law of a bus.
 use mathlib.Core.Path.{_≡_, refl, sym, ap, subst, _∙_}
 use mathlib.Core.Bool.{Bool, true, false, _&&_}
 use mathlib.Core.Logic.{_⊎_, inl, inr}
@@ -9,27 +9,20 @@ use lib.Dec.{eqb, ltb, leb}
 use lib.ListN.{length}
 use Rattle.std.proofs.shelf.Tests.{and-parts, ltb-true, leb-true, eqb-true, cond-both, false≢true}
 use Rattle.memory.specs.Change.{Change}
-use Rattle.memory.specs.Make.{Make}
 use Rattle.memory.specs.Ran.{erases, Within}
 use Rattle.memory.proofs.Effects.{writes-within, erases-within}
-use Rattle.image.specs.Startable.{startable}
 use Rattle.layout.specs.Areas.{address, application-place, application-size, download-place}
 use Rattle.layout.specs.declared.divided.Layout.{Layout}
 use Rattle.rule.specs.Bus.{Plan, Approves, Harmless, idle, fills, Law}
-use Rattle.rule.specs.Calls.{downloaded, whole, cut, Called, mismatch, unheard, did}
-use Rattle.rule.specs.Rule.{Said, Accepted}
 use Rattle.rule.specs.Frame.{Verdict, more, wrong, good, judge}
 use Rattle.rule.specs.Command.{Effect, effect, allowed, erase-segment, write-block, jump, at-address, obey}
-use Rattle.rule.specs.Frames.{Receiver, is-listening, answers, hear, Jump-frame, frames, Jump-answered, Jumps-told}
-use Rattle.words.specs.declared.Answer.the-variants.{Done, InvalidParams}
-use Rattle.words.specs.declared.Call.the-variants.{Tell}
-use Rattle.words.specs.declared.Outcome.{Outcome}
-use Rattle.words.specs.declared.Outcome.the-variants as Outcome
+use Rattle.rule.specs.Frames.{Receiver, is-listening, answers, hear, Jump-frame, frames}
 use Rattle.words.specs.declared.Phase.{Phase}
 use Rattle.words.specs.declared.Phase.the-variants.{Waiting, Listening, Running}
 use Rattle.words.specs.declared.Reply.{Reply}
-use Rattle.words.specs.declared.Reply.the-variants.{Answered}
-use Rattle.rule.proofs.Steps.{waiting-not, lost-not-said}
+
+waiting-not : Waiting ≡ Listening → ⊥
+waiting-not e = let z : _≡_ {A = ℕ} 0 1 = cc in omega arith
 
 listening : (p : Phase) → is-listening p ≡ true → p ≡ Listening
 listening Waiting e = absurd (false≢true e)
@@ -37,7 +30,7 @@ listening Listening e = refl
 listening Running e = absurd (false≢true e)
 
 -- what the byte that ends a jump frame is to do
-jump-plan : (c : Receiver) (can : Bool) (byte : ℕ) → Jump-frame c byte → frames .plan c can byte ≡ answers c (jump can)
+pub jump-plan : (c : Receiver) (can : Bool) (byte : ℕ) → Jump-frame c byte → frames .plan c can byte ≡ answers c (jump can)
 jump-plan c can byte j = ap (hear c can (c .packet ++ byte ∷ [])) (j .frame)
 
 module _ (c : Receiver) (can : Bool) (byte : ℕ) (on : c .phase ≡ Listening) where
@@ -115,46 +108,3 @@ frames-law = record {
       subst (Approves c) (sym (jump-plan c true byte j)) (record { listening = listening (c .phase) on; changes = refl; waits = refl });
   otherwise = λ c can byte on. hear-lawful c can byte (listening (c .phase) on) _ refl;
 }
-
--- On frames an accepted jump is a jump frame that is answered 0x00.
-pub jumps-told : {M : Type 0} (accepts : List ℕ → Bool) (make : Make M) → Jumps-told accepts make
-jumps-told accepts make e = (there, back)
-  where
-    can : Bool
-    can = startable accepts (downloaded (e .before))
-
-    -- the call, as an event
-    as-event : {b : ℕ} → e .call ≡ Tell b → Called (Tell b) (e .before) (e .after) (e .outcome)
-    as-event is = subst (λ c. Called c (e .before) (e .after) (e .outcome)) is (e .called)
-
-    -- what a jump frame answers, once it was carried out, and that it was heard
-    says : {b : ℕ} → Jump-frame (e .before .control) b → Said (e .outcome) → Called (Tell b) (e .before) (e .after) (e .outcome)
-        → (is-listening (e .before .control .phase) ≡ true) × (e .outcome ≡ Outcome.Said (Answered (jump can .answer)))
-    says j ok (mismatch off same out) = let z : _≡_ {A = ℕ} 0 1 = cc (out, ok .1) in let never : ⊥ = omega arith in absurd never
-    says j ok (unheard fit deaf same out) = let z : _≡_ {A = ℕ} 0 1 = cc (out, ok .1) in let never : ⊥ = omega arith in absurd never
-    says {b} j ok (did fit on (whole ran is out)) = (on, out ∙ ap (λ p. Outcome.Said (p .says)) (jump-plan (e .before .control) can b j))
-    says j ok (did fit on (cut p ran is out)) = absurd (lost-not-said (e .outcome) (p, _, out) ok)
-
-    there : Accepted e → Jump-answered e
-    there (j, ok) = record {
-      byte = j .event;
-      call = j .call;
-      frame = j .command;
-      answer = says (j .command) ok (as-event (j .call)) .1 ∙ ap (λ v. Outcome.Said (Answered (jump v .answer))) (j .can);
-    }
-
-    back : Jump-answered e → Accepted e
-    back a = (record { event = a .byte; call = a .call; heard = told .0; command = a .frame; can = startably can refl }, ok)
-      where
-        ok : Said (e .outcome)
-        ok = (_, a .answer)
-
-        told : (is-listening (e .before .control .phase) ≡ true) × (e .outcome ≡ Outcome.Said (Answered (jump can .answer)))
-        told = says (a .frame) ok (as-event (a .call))
-
-        startably : (v : Bool) → can ≡ v → can ≡ true
-        startably true is = is
-        startably false is =
-            let out = told .1 ∙ ap (λ v. Outcome.Said (Answered (jump v .answer))) is in
-            let z : _≡_ {A = ℕ} 0 1 = cc (a .answer, out) in
-            let never : ⊥ = omega arith in absurd never
