@@ -3,13 +3,13 @@ use mathlib.Core.Path.{_≡_}
 use mathlib.Core.Bool.{Bool, true, false}
 use mathlib.Core.List.{List, [], _∷_, _++_}
 use mathlib.Core.Logic.{_↔_}
-use Prim.Native.Nat.{ℕ, _+_, _*_, _/_, _%_, _≤_}
-use lib.ListN.{length}
+use Prim.Native.Nat.{ℕ, _/_, _%_, _≤_, _<_}
+use lib.ListN.{length, getD}
 use Rattle.crc.specs.Sums.{ccitt}
 use Rattle.memory.specs.Make.{Make}
 use Rattle.rule.specs.Bus.{Control, Plan, Bus}
-use Rattle.rule.specs.Calls.{Engine, engine}
-use Rattle.rule.specs.Rule.{Step, Accepted}
+use Rattle.rule.specs.Calls.{Engine, engine, Machine}
+use Rattle.rule.specs.Rule.{Step, Accepted, Reached}
 use Rattle.rule.specs.Frame.{Verdict, more, wrong, good, judge}
 use Rattle.rule.specs.Command.{Effect, obey, effect}
 use Rattle.words.specs.declared.Answer.the-variants.{Done}
@@ -73,6 +73,16 @@ pub record Good-frame (bytes payload : List ℕ) : Type 0 where
   pub short : 1 ≤ length payload
   pub long : length payload ≤ 19
   pub whole : bytes ≡ 0x80 ∷ length payload ∷ (payload ++ (ccitt payload % 256) ∷ (ccitt payload / 256) ∷ [])
+
+-- what a receiver keeps is never a whole frame: more is to come
+abbrev pub Unfinished : {M : Type 0} → (List ℕ → Bool) → Make M → Type 0
+Unfinished accepts make = (n : Machine (framed accepts make)) → Reached n → judge (n .control .packet) ≡ more
+
+-- with what is kept so, the bytes since the last answer are acted on exactly where they form a good frame
+abbrev pub Acts-on-good-frames : Type 0
+Acts-on-good-frames =
+    (packet : List ℕ) (byte : ℕ) (payload : List ℕ) → judge packet ≡ more → ((i : ℕ) → getD (packet ++ byte ∷ []) i 0 < 256)
+    → (judge (packet ++ byte ∷ []) ≡ good payload) ↔ Good-frame (packet ++ byte ∷ []) payload
 
 -- a jump frame that is answered 0x00
 pub record Jump-answered {M : Type 0} {accepts : List ℕ → Bool} {make : Make M} (e : Step (framed accepts make)) : Type 0 where
