@@ -270,9 +270,9 @@ pub struct CrcCcitt;
 pub impl Checksum for CrcCcitt as CrcCcittChecksum {
     type Register = u16;
 
-    ghost first = { 0xFFFF };
+    ghost starts = { 0xFFFF };
 
-    ghost next = { fed 16 0x1021 };
+    ghost steps = { fed 16 0x1021 };
 
     fn start() -> u16 {
         START

@@ -270,9 +270,9 @@ pub struct Crc8;
 pub impl Checksum for Crc8 as Crc8Checksum {
     type Register = u8;
 
-    ghost first = { 0 };
+    ghost starts = { 0 };
 
-    ghost next = { fed 8 0x07 };
+    ghost steps = { fed 8 0x07 };
 
     fn start() -> u8 {
         START

@@ -16,20 +16,20 @@ pub use crc8::Crc8Checksum;
 pub trait Checksum {
     type Register;
 
-    ghost first: { Self·Register };
+    ghost starts: { Self·Register };
 
-    ghost next: { Self·Register → ℕ → Self·Register };
+    ghost steps: { Self·Register → ℕ → Self·Register };
 
     fn start() -> Self::Register
-        ensures { λ r. ⌜ r ≡ first ⌝ };
+        ensures { λ r. ⌜ r ≡ starts ⌝ };
 
     fn step(register: Self::Register, byte: u8) -> Self::Register
-        ensures { λ r. ⌜ r ≡ next register byte ⌝ };
+        ensures { λ r. ⌜ r ≡ steps register byte ⌝ };
 }
 
 // The sum of all bytes, in their order.
 pub fn sum<S: Checksum>(bytes: &[u8]) -> S::Register
-    ensures { λ r. ⌜ r ≡ folded (S·Checksum .next) (S·Checksum .first) (now (bytes .entry)) ⌝ }
+    ensures { λ r. ⌜ r ≡ folded (S·Checksum .steps) (S·Checksum .starts) (now (bytes .entry)) ⌝ }
 {
     let mut register = S::start();
     for byte in bytes {

@@ -12,7 +12,7 @@ use Rattle.std.proofs.shelf.Tests.{eqb-true, eq-eqb, false≢true}
 use Rattle.crc.specs.Register.{fed}
 use Rattle.crc.specs.Sums.{ccitt, crc8}
 use Rattle.image.specs.Check.{accepted}
-use Rattle.image.specs.Sums.{word, ccitt-next, ccitt-good, ccitt-check, crc8-next, crc8-good, crc8-check, Holds-ccitt, Holds-crc8}
+use Rattle.image.specs.Sums.{word, ccitt-step, ccitt-accepts, ccitt-check, crc8-step, crc8-accepts, crc8-check, Holds-ccitt, Holds-crc8}
 use Rattle.image.specs.declared.ccitt.CcittState.the-variants as W
 use Rattle.image.specs.declared.crc8.Crc8State.the-variants as B
 
@@ -33,11 +33,11 @@ ccitt-means [] = (λ e. absurd (false≢true e), λ h. let none : ⊥ = omega (a
 ccitt-means (low ∷ []) = (λ e. absurd (false≢true e), λ h. let none : ⊥ = omega (arith, h .0) in absurd none)
 ccitt-means (low ∷ high ∷ bytes) =
     let stored = word low high in
-    let w = compares _ stored (ccitt bytes) (ap ccitt-good (carried ccitt-next (W.Summing stored) (fed 16 0x1021) (λ _ _. refl) bytes 0xFFFF)) in
+    let w = compares _ stored (ccitt bytes) (ap ccitt-accepts (carried ccitt-step (W.Summing stored) (fed 16 0x1021) (λ _ _. refl) bytes 0xFFFF)) in
     (λ t. (omega arith, w .0 t), λ h. w .1 (h .1))
 
 pub crc8-means : (image : List ℕ) → (accepted crc8-check image ≡ true) ↔ Holds-crc8 image
 crc8-means [] = (λ e. absurd (false≢true e), λ h. let none : ⊥ = omega (arith, h .0) in absurd none)
 crc8-means (stored ∷ bytes) =
-    let w = compares _ stored (crc8 bytes) (ap crc8-good (carried crc8-next (B.Summing stored) (fed 8 0x07) (λ _ _. refl) bytes 0)) in
+    let w = compares _ stored (crc8 bytes) (ap crc8-accepts (carried crc8-step (B.Summing stored) (fed 8 0x07) (λ _ _. refl) bytes 0)) in
     (λ t. (omega arith, w .0 t), λ h. w .1 (h .1))

@@ -37,34 +37,34 @@ abbrev pub Holds-crc8 : List ℕ → Type 0
 Holds-crc8 image = (1 ≤ length image) × (getD image 0 0 ≡ crc8 (drop 1 image))
 
 -- CRC-CCITT, a byte at a time: the two bytes of the stored sum, then the register over all later bytes
-abbrev pub ccitt-next : CcittState → ℕ → CcittState
-ccitt-next W.Empty byte = W.Low byte
-ccitt-next (W.Low low) byte = W.Summing (word low byte) 0xFFFF
-ccitt-next (W.Summing stored register) byte = W.Summing stored (fed 16 0x1021 register byte)
+abbrev pub ccitt-step : CcittState → ℕ → CcittState
+ccitt-step W.Empty byte = W.Low byte
+ccitt-step (W.Low low) byte = W.Summing (word low byte) 0xFFFF
+ccitt-step (W.Summing stored register) byte = W.Summing stored (fed 16 0x1021 register byte)
 
-abbrev pub ccitt-good : CcittState → Bool
-ccitt-good W.Empty = false
-ccitt-good (W.Low low) = false
-ccitt-good (W.Summing stored register) = eqb stored register
+abbrev pub ccitt-accepts : CcittState → Bool
+ccitt-accepts W.Empty = false
+ccitt-accepts (W.Low low) = false
+ccitt-accepts (W.Summing stored register) = eqb stored register
 
 abbrev pub ccitt-check : Check CcittState
-ccitt-check = record { first = W.Empty; next = ccitt-next; good = ccitt-good }
+ccitt-check = record { start = W.Empty; step = ccitt-step; accepts = ccitt-accepts }
 
 -- CRC-8, a byte at a time: the stored sum, then the register over all later bytes
-abbrev pub crc8-next : Crc8State → ℕ → Crc8State
-crc8-next B.Empty byte = B.Summing byte 0
-crc8-next (B.Summing stored register) byte = B.Summing stored (fed 8 0x07 register byte)
+abbrev pub crc8-step : Crc8State → ℕ → Crc8State
+crc8-step B.Empty byte = B.Summing byte 0
+crc8-step (B.Summing stored register) byte = B.Summing stored (fed 8 0x07 register byte)
 
-abbrev pub crc8-good : Crc8State → Bool
-crc8-good B.Empty = false
-crc8-good (B.Summing stored register) = eqb stored register
+abbrev pub crc8-accepts : Crc8State → Bool
+crc8-accepts B.Empty = false
+crc8-accepts (B.Summing stored register) = eqb stored register
 
 abbrev pub crc8-check : Check Crc8State
-crc8-check = record { first = B.Empty; next = crc8-next; good = crc8-good }
+crc8-check = record { start = B.Empty; step = crc8-step; accepts = crc8-accepts }
 
 -- vector only: nothing is looked at, and every list is accepted
 abbrev pub vector-check : Check (Unit {0})
-vector-check = record { first = tt; next = λ state _. state; good = λ _. true }
+vector-check = record { start = tt; step = λ state _. state; accepts = λ _. true }
 
 -- a check with a stored sum of n bytes accepts no list that is shorter
 abbrev pub Needs-its-sum : {State : Type 0} → Check State → ℕ → Type 0

@@ -40,13 +40,13 @@ pub trait ImageCheck {
         ensures { λ r. ⌜ r ≡ stored ⌝ };
 
     fn start() -> Self::State
-        ensures { λ r. ⌜ r ≡ check .first ⌝ };
+        ensures { λ r. ⌜ r ≡ check .start ⌝ };
 
     fn step(state: Self::State, byte: u8) -> Self::State
-        ensures { λ r. ⌜ r ≡ check .next state byte ⌝ };
+        ensures { λ r. ⌜ r ≡ check .step state byte ⌝ };
 
     fn accepts(state: Self::State) -> bool
-        ensures { λ r. ⌜ r ≡ check .good state ⌝ };
+        ensures { λ r. ⌜ r ≡ check .accepts state ⌝ };
 }
 
 // Whether the check accepts these bytes.

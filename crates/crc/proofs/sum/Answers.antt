@@ -10,4 +10,4 @@ loop-byte-again g c = search (needs, folded-more)
 
 pub returns : need.returns
 returns g c =
-    c .loop-byte .inv ∙ ap (folded (g .S·Checksum .next) (g .S·Checksum .first)) (take-all _ _ (c .loop-byte-test .left))
+    c .loop-byte .inv ∙ ap (folded (g .S·Checksum .steps) (g .S·Checksum .starts)) (take-all _ _ (c .loop-byte-test .left))

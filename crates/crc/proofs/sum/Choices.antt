@@ -4,4 +4,4 @@ use Rattle.std.specs.Iters.{folded}
 use Rattle.crc.proofs.sum.Given as given
 
 abbrev pub Inv-loop-byte : given.InvT-loop-byte
-Inv-loop-byte g l = l .register ≡ folded (g .S·Checksum .next) (g .S·Checksum .first) (take (l .byte-index) (l .bytes))
+Inv-loop-byte g l = l .register ≡ folded (g .S·Checksum .steps) (g .S·Checksum .starts) (take (l .byte-index) (l .bytes))

@@ -12,4 +12,4 @@ loop-byte-again g c = search (needs, folded-more)
 pub returns : need.returns
 returns g c =
     let check = g .C·ImageCheck .check in
-    c .accepts .ensures ∙ ap (check .good) (c .loop-byte .inv) ∙ ap (accepted check) (take-all _ _ (c .loop-byte-test .left))
+    c .accepts .ensures ∙ ap (check .accepts) (c .loop-byte .inv) ∙ ap (accepted check) (take-all _ _ (c .loop-byte-test .left))

@@ -6,4 +6,4 @@ use Rattle.image.proofs.accepts.Given as given
 abbrev pub Inv-loop-byte : given.InvT-loop-byte
 Inv-loop-byte g l =
     let check = g .C·ImageCheck .check in
-    l .state ≡ folded (check .next) (check .first) (take (l .byte-index) (l .image))
+    l .state ≡ folded (check .step) (check .start) (take (l .byte-index) (l .image))
