@@ -10,6 +10,9 @@ ghost use Rattle.words.specs.declared.Refusal.the-variants.{BadLayout};
 use super::Layout;
 use words::Refusal;
 
+// The status segment lies below the download area.
+const DOWNLOAD: usize = 512;
+
 impl Layout {
     // Refused where the numbers are outside their limits.
     pub fn new(k: u8, b: u8) -> Result<Layout, Refusal>
@@ -61,7 +64,7 @@ impl Layout {
     pub fn download_place(&self) -> usize
         ensures { λ r. ⌜ r ≡ download-place ⌝ }
     {
-        512
+        DOWNLOAD
     }
 
     pub fn application_place(&self) -> usize
