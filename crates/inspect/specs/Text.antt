@@ -1,7 +1,7 @@
 -- The words in which a report is printed.
 use Rattle.std.specs.Prelude.{ℕ, List, [], ◌∷◌, ◌++◌, codes, decimal}
 use Prim.Native.String.{String}
-use Rattle.hex.specs.Digits.{byte_digits, word_digits}
+use Rattle.hex_digits.specs.Digits.{byte_digits, word_digits}
 use Rattle.inspect.specs.declared.Field.{Field}
 use Rattle.inspect.specs.declared.Field.TheVariants as F
 use Rattle.inspect.specs.declared.Verdict.{Verdict}

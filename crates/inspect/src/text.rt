@@ -1,10 +1,10 @@
 // A report in plain words, one fact a line.
 ghost use Rattle.std.specs.Prelude.{◌++◌, Some, codes};
-ghost use Rattle.hex.specs.Digits.{word_digits};
+ghost use Rattle.hex_digits.specs.Digits.{word_digits};
 ghost use Rattle.inspect.specs.Text.{field_text, verdict_text, misuse_text, report_text};
 
 use crate::{Field, Misuse, Report, Sealed, TooShort, Verdict};
-use hex::{HexByte, HexWord};
+use hex_digits::{HexByte, HexWord};
 use std::error::Error;
 use std::fmt;
 

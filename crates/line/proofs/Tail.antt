@@ -1,7 +1,7 @@
 -- What stands after the number of a line, and the digits of the number.
 use Rattle.std.proofs.Common.{◌≡◌, ℕ, ◌+◌, ◌/◌, ◌%◌, ◌^◌, ◌<◌, ◌≤◌, List, [], ◌∷◌, ◌++◌, codes, decimal, sym, ap, ◌∙◌, append_assoc, mod-eq_of_lt, arith}
 use Rattle.std.proofs.lemmas.Fmt.{decimal_digit, decimal_step}
-use Rattle.hex.specs.Digits.{digit, byte_digits}
+use Rattle.hex_digits.specs.Digits.{digit, byte_digits}
 use Rattle.words.specs.declared.Outcome.{Outcome}
 use Rattle.words.specs.declared.Reply.{Reply}
 use Rattle.line.specs.One.{letter, value, line_bytes}

@@ -1,6 +1,6 @@
 -- One line: the number of an event, and how it came out.
 use Rattle.std.specs.Prelude.{ℕ, List, ◌++◌, codes, decimal}
-use Rattle.hex.specs.Digits.{byte_digits}
+use Rattle.hex_digits.specs.Digits.{byte_digits}
 use Rattle.words.specs.Numbers.{answer_byte, refusal_number}
 use Rattle.words.specs.declared.Outcome.{Outcome}
 use Rattle.words.specs.declared.Outcome.TheVariants.{Said, Chose, Refused}

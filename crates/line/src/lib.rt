@@ -1,10 +1,10 @@
 // The lines that a bench writes: how each event of its script came out.
 ghost use Rattle.std.specs.Prelude.{◌≡◌, ◌%◌, [], ◌∷◌, ◌++◌, IfOk, Some, decimal, OnOk};
-ghost use Rattle.hex.specs.Digits.{digit as the_digit};
+ghost use Rattle.hex_digits.specs.Digits.{digit as the_digit};
 ghost use Rattle.line.specs.One.{letter as the_letter, value as the_value, line_bytes};
 ghost use Rattle.line.specs.Every.{lines_from};
 
-use hex::HexByte;
+use hex_digits::HexByte;
 use script::Ending;
 use std::alloc::{AllocError, Global};
 use std::fmt;
@@ -39,7 +39,7 @@ fn value(outcome: Outcome<Reply>) -> u8
 fn digit(nibble: u8) -> u8
     ensures { result ≡ the_digit (nibble % 16) }
 {
-    hex::digit(nibble) as u8
+    hex_digits::digit(nibble) as u8
 }
 
 // The number of an event, and how it came out.

@@ -1,6 +1,6 @@
 // Changes and cuts of the two simulated memories: what each change answers, and what the caller's bytes are at the end.
 use crc::CrcCcitt;
-use hex::{HexByte, HexWord};
+use hex_digits::{HexByte, HexWord};
 use memory::{Fault, Memory};
 use models::{Cut, Flash, FlashCells, Fram, FramCells};
 

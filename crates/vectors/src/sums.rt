@@ -1,7 +1,7 @@
 // Published and independently worked out check values of the two sums.
 use anyhow::anyhow;
 use crc::{Crc8, CrcCcitt};
-use hex::{HexByte, HexWord};
+use hex_digits::{HexByte, HexWord};
 use std::alloc::{AllocError, Global};
 
 // A list of bytes, by a part and how often it is repeated, and its two sums.

@@ -1,6 +1,6 @@
 use Rattle.std.proofs.Common.{◌≡◌, ◌/◌, ◌%◌, ◌<◌, refl, mod-eq_of_lt, arith, rules}
-use Rattle.hex.proofs.Encoded.{encoded}
-use Rattle.hex.proofs.HexByteDisplay.fmt.Goals as goal
+use Rattle.hex_digits.proofs.Encoded.{encoded}
+use Rattle.hex_digits.proofs.HexByteDisplay.fmt.Goals as goal
 
 pub returns-clause-writes : goal.returns-clause-writes
 returns-clause-writes g c =

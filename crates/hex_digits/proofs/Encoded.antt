@@ -3,7 +3,7 @@ use Rattle.std.proofs.Common.{◌≡◌, ℕ, ◌+◌, ◌<◌, ltb, [], ◌∷�
 use lib.Utf8.{encode}
 use Rattle.std.proofs.lemmas.Bool.{cond_both}
 use Rattle.std.proofs.lemmas.Str.Ascii.{encode_ascii}
-use Rattle.hex.specs.Digits.{digit}
+use Rattle.hex_digits.specs.Digits.{digit}
 
 pub encoded : (c n m : ℕ) → c ≡ digit n → n ≡ m → m < 16 → encode c ≡ digit m ∷ []
 encoded c n m e is h =
