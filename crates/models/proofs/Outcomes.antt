@@ -1,5 +1,5 @@
 -- A list of changes of a simulated memory has one outcome.
-use Rattle.std.proofs.Common.{◌≡◌, ℕ, true, List, [], ◌∷◌, Ok, Err, sym, refl, ap, ◌∙◌, Bor}
+use Rattle.std.proofs.Common.{◌≡◌, ℕ, true, List, [], ◌∷◌, Ok, Err, sym, refl, ap, ◌∙◌, Bor, MutBor}
 use Rattle.memory.specs.Change.{Change, End}
 use Rattle.memory.specs.Ran.{Ran, none, stop, more}
 use Rattle.models.specs.Cells.{Cells}
@@ -17,7 +17,7 @@ exact cells C (c ∷ cs) m n r (stop f h a) = (λ i. (n, a i)) ∙ ap (after (ma
 exact cells C (c ∷ cs) m n r (more {n = o} h rest) = exact cells C cs o n r rest ∙ ap (after (made cells) cs) h.1
 
 -- a new memory, written out
-pub fresh_is : {C : Type 0} (bytes : Bor (List ℕ)) (cuts : Bor (List Cut)) (m : Simulated C) → Fresh bytes cuts m
+pub fresh_is : {C : Type 0} (bytes : MutBor (List ℕ)) (cuts : Bor (List Cut)) (m : Simulated C) → Fresh bytes cuts m
     → m ≡ record { bytes = bytes; cuts = cuts; next = 0; finished = 0; on = true; cells = m.cells }
 fresh_is bytes cuts m f = λ i. record { bytes = f.over i; cuts = f.with i; next = f.next i; finished = f.finished i; on = f.on i; cells = m.cells }
 

@@ -1,5 +1,6 @@
 -- A simulated memory over bytes and a list of cuts that its caller holds: what each change leaves, exactly.
 use Rattle.std.specs.Prelude.{◌≡◌, ℕ, ◌+◌, ◌*◌, ◌/◌, ◌%◌, ◌<◌, min, Bool, true, false, cond, ◌&&◌, List, [], ◌∷◌, ◌++◌, map, length, take, drop, replicate, Ok, Err, nat_le, nat_lt, slice_index, slice_index_or, slice_set}
+use denote.Bor.{Bor}
 use denote.Ref.{at_last, MutBor}
 use Rattle.memory.specs.State.{State}
 use Rattle.memory.specs.Change.{Change, write, erase, first, span, End}
@@ -124,7 +125,7 @@ Exact cells C =
     (cs : List Change) (m n : Simulated C) (r : End) → Ran (simulated cells) cs m n r → (n, r) ≡ made cells cs m
 
 -- a new one over the caller's bytes and cuts
-pub record Fresh {C : Type 0} (bytes : MutBor (List ℕ)) (cuts : MutBor (List Cut)) (m : Simulated C) : Type 0 where
+pub record Fresh {C : Type 0} (bytes : MutBor (List ℕ)) (cuts : Bor (List Cut)) (m : Simulated C) : Type 0 where
   pub over : m.bytes ≡ bytes
   pub with : m.cuts ≡ cuts
   pub next : m.next ≡ 0

@@ -5,4 +5,4 @@ use Rattle.bench.proofs.tell.Goals as goal
 pub returns-in-Ok : goal.returns-in-Ok
 returns-in-Ok c =
     let s = c.in-Ok in
-    lines_told c.lines.result _ s.layout s.kind c.as-slice.result.now c.as-mut-slice.result.now c.play-on.new.turns s.ending ? c.play-on.ensures ?
+    lines_told c.lines.result _ s.layout s.kind c.as_slice.result.now c.as_mut_slice.result.now c.play_on.new.turns s.ending ? c.play_on.ensures ?

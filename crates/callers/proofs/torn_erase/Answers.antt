@@ -11,14 +11,14 @@ use Rattle.callers.proofs.torn_erase.Goals as goal
 
 pub returns : goal.returns
 returns c =
-    let flash-0 = fresh_is _ _ c.new-memory.result c.new-memory.ensures in
-    let flash-1 = ran_from flash (erases 0 1) c.new-memory.result _ c.erase-all-flash-end.new.memory c.erase-all-flash-end.result flash-0 c.erase-all-flash-end.ensures.ran in
-    let flash-kept = ap (λ (p : Simulated FlashCells × End). p.0.bytes.ghost_name) flash-1 in
-    let flash-bytes : c.erase-all-flash-end.new.memory.bytes.now ≡ replicate 512 0x17 ++ replicate 88 0x05 = ap (λ (p : Simulated FlashCells × End). p.0.bytes.now) flash-1 in
-    let flash-end : c.erase-all-flash-end.result ≡ Err (SupplyLost 0) = ap (λ (p : Simulated FlashCells × End). p.1) flash-1 in
-    let fram-0 = fresh_is _ _ c.new-memory-2.result c.new-memory-2.ensures in
-    let fram-1 = ran_from fram (erases 0 1) c.new-memory-2.result _ c.erase-all-fram-end.new.memory c.erase-all-fram-end.result fram-0 c.erase-all-fram-end.ensures.ran in
-    let fram-kept = ap (λ (p : Simulated FramCells × End). p.0.bytes.ghost_name) fram-1 in
-    let fram-bytes : c.erase-all-fram-end.new.memory.bytes.now ≡ replicate 18 0xFF ++ replicate 582 0x05 = ap (λ (p : Simulated FramCells × End). p.0.bytes.now) fram-1 in
-    let fram-end : c.erase-all-fram-end.result ≡ Err (SupplyLost 0) = ap (λ (p : Simulated FramCells × End). p.1) fram-1 in
-    record { flash-bytes = search rules; flash-end = flash-end; fram-bytes = search rules; fram-end = fram-end }
+    let flash_0 = fresh_is _ _ c.new-memory.result c.new-memory.ensures in
+    let flash_1 = ran_from flash (erases 0 1) c.new-memory.result _ c.erase_all-flash_end.new.memory c.erase_all-flash_end.result flash_0 c.erase_all-flash_end.ensures.ran in
+    let flash_kept = ap (λ (p : Simulated FlashCells × End). p.0.bytes.ghost_name) flash_1 in
+    let flash_bytes : c.erase_all-flash_end.new.memory.bytes.now ≡ replicate 512 0x17 ++ replicate 88 0x05 = ap (λ (p : Simulated FlashCells × End). p.0.bytes.now) flash_1 in
+    let flash_end : c.erase_all-flash_end.result ≡ Err (SupplyLost 0) = ap (λ (p : Simulated FlashCells × End). p.1) flash_1 in
+    let fram_0 = fresh_is _ _ c.new-memory-2.result c.new-memory-2.ensures in
+    let fram_1 = ran_from fram (erases 0 1) c.new-memory-2.result _ c.erase_all-fram_end.new.memory c.erase_all-fram_end.result fram_0 c.erase_all-fram_end.ensures.ran in
+    let fram_kept = ap (λ (p : Simulated FramCells × End). p.0.bytes.ghost_name) fram_1 in
+    let fram_bytes : c.erase_all-fram_end.new.memory.bytes.now ≡ replicate 18 0xFF ++ replicate 582 0x05 = ap (λ (p : Simulated FramCells × End). p.0.bytes.now) fram_1 in
+    let fram_end : c.erase_all-fram_end.result ≡ Err (SupplyLost 0) = ap (λ (p : Simulated FramCells × End). p.1) fram_1 in
+    record { flash_bytes = search rules; flash_end = flash_end; fram_bytes = search rules; fram_end = fram_end }

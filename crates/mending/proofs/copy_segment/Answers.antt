@@ -11,13 +11,13 @@ loop-i-preserved g c =
     let f : ℕ → ℕ = λ k. at (g.M.Memory.make.state c.args.memory.now) (512 * c.args.from + k) in
     (length-set _ _ _ ∙ c.loop-i.invariant.0, rw c.read.ensures (fill_by_more f c.loop-i.buffer c.loop-i.i 0 (omega arith) c.loop-i.invariant.1))
 
-pub returns-in-err-erase : goal.returns-in-err-erase
-returns-in-err-erase g c =
-    let p = err_from_is_err_and c.from-residual.result c.from-residual.ensures.1 in
-    rw (p.1, p.2) (stop _ c.in-err-erase.ensures refl)
+pub returns-in_err-erase : goal.returns-in_err-erase
+returns-in_err-erase g c =
+    let p = err_from_is_err_and c.from_residual.result c.from_residual.ensures.1 in
+    rw (p.1, p.2) (stop _ c.in_err-erase.ensures refl)
 
 pub returns : goal.returns
 returns g c =
     let same = part_read (g.M.Memory.make.state c.args.memory.now).bytes c.loop-i.buffer (512 * c.args.from) c.loop-i.invariant.0 (omega arith) (λ i lt. c.loop-i.invariant.1 i (omega arith)) in
-    let P : List ℕ → Type 0 = λ bytes. Ran g.M.Memory.make (writes (512 * c.args.to) bytes) c.erase.new.self c.write-all.new.memory c.write-all.result in
-    more c.in-ok-erase.ensures (subst P same c.write-all.ensures.ran)
+    let P : List ℕ → Type 0 = λ bytes. Ran g.M.Memory.make (writes (512 * c.args.to) bytes) c.erase.new.self c.write_all.new.memory c.write_all.result in
+    more c.in_ok-erase.ensures (subst P same c.write_all.ensures.ran)

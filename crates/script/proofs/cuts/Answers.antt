@@ -11,7 +11,7 @@ loop-preserved c =
       cuts_more c.args.count c.loop.counter rest _ (vec_items c.loop.cuts) (vec_items c.push.new.self) (cuts c.args.count c.args.bytes.now)
           c.loop-test.true
           (take_rest rest 6)
-          (simp (c.from-le-bytes.ensures, c.from-le-bytes-in-loop.ensures) at c.in-ok-push.ensures.items)
+          (simp (c.from_le_bytes.ensures, c.from_le_bytes-in-loop.ensures) at c.in_ok-push.ensures.items)
           c.loop.invariant.0,
       rw take_rest (rw length-drop (omega arith)),
     )

@@ -4,11 +4,11 @@ use Rattle.script.specs.Events.{events}
 use Rattle.script.proofs.More.{events_more, events_stop}
 use Rattle.script.proofs.events.Goals as goal
 
-pub returns-in-default : goal.returns-in-default
-returns-in-default c =
+pub returns-in_default : goal.returns-in_default
+returns-in_default c =
     events_stop c.args.count c.loop.counter c.loop.rest.now (vec_items c.loop.turns) (events c.args.count c.args.bytes.now)
     c.loop-test.true
-    (sym c.event.ensures ∙ c.in-default.is)
+    (sym c.event.ensures ∙ c.in_default.is)
     c.loop.invariant
 
 pub loop-preserved : goal.loop-preserved
@@ -17,5 +17,5 @@ loop-preserved c =
     c.loop-test.true
     (take_rest c.loop.rest.now 5)
     (sym c.event.ensures ∙ c.in-Some.is)
-    c.in-ok-push.ensures.items
+    c.in_ok-push.ensures.items
     c.loop.invariant

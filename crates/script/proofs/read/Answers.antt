@@ -10,6 +10,6 @@ returns c =
     let bytes = c.args.input.now in
     let long : 4 ≤ length bytes = search rules in
     let three : at bytes 0 ≡ 3 = search rules in
-    subst (λ said. Gives c.read-cuts.result said)
+    subst (λ said. Gives c.read_cuts.result said)
     (sym (script_at bytes _ c.in-Some.kind long three (sym c.kind_of.ensures ∙ c.in-Some.is) (sym (take_rest bytes 4))))
-    c.read-cuts.ensures
+    c.read_cuts.ensures

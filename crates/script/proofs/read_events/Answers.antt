@@ -7,9 +7,9 @@ pub returns : goal.returns
 returns c =
     let bytes = c.args.bytes.now in
     let long : 2 ≤ length bytes = search rules in
-    events_at c.args.layout.k c.args.layout.b c.args.kind (vec_items c.args.cuts) bytes _ c.from-le-bytes-count.result
-    (vec_items c.in-ok-turns.turns) c.in-ok-turns.ending
+    events_at c.args.layout.k c.args.layout.b c.args.kind (vec_items c.args.cuts) bytes _ c.from_le_bytes-count.result
+    (vec_items c.in_ok-turns.turns) c.in_ok-turns.ending
     long
-    (sym c.from-le-bytes-count.ensures)
+    (sym c.from_le_bytes-count.ensures)
     (sym (take_rest bytes 2))
-    c.in-ok-turns.ensures
+    c.in_ok-turns.ensures

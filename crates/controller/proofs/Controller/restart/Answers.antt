@@ -5,13 +5,13 @@ use Rattle.receiver.specs.Packet.{packet}
 use Rattle.controller.proofs.Restarts.{finishes, stays_on, loses}
 use Rattle.controller.proofs.Controller.restart.Goals as goal
 
-pub returns-in-err-mend : goal.returns-in-err-mend
-returns-in-err-mend g c =
-    let p = err_from_is_err_and c.from-residual.result c.from-residual.ensures.1 in
+pub returns-in_err-mend : goal.returns-in_err-mend
+returns-in_err-mend g c =
+    let p = err_from_is_err_and c.from_residual.result c.from_residual.ensures.1 in
     let self = c.args.self.now in
     let end = loses g.M.Memory.laws (accepted g.C.ImageCheck.check) self.layout self.phase (packet self.receiver) c.args.inputs
     c.args.memory.now c.restore.new.self c.mend.new.memory (sym c.size.ensures ∙ c.if-size.false ∙ c.size-2.ensures) c.restore.ensures
-    _ c.in-err-mend.ensures (packet c.new-self.result) c.new-self.ensures.expects in
+    _ c.in_err-mend.ensures (packet c.new-self.result) c.new-self.ensures.expects in
     rw (p.1, p.2) (record { called = end.0; supply = end.1 })
 
 pub returns : goal.returns
@@ -21,7 +21,7 @@ returns g c =
     record {
       called = finishes g.M.Memory.laws (accepted g.C.ImageCheck.check) self.layout self.phase (packet self.receiver) c.args.inputs
           c.args.memory.now c.restore.new.self c.mend.new.memory fit c.restore.ensures
-          c.in-ok-mend.ensures c.choose-phase.result (packet c.new-self.result) c.choose-phase.ensures c.new-self.ensures.expects;
+          c.in_ok-mend.ensures c.choose-phase.result (packet c.new-self.result) c.choose-phase.ensures c.new-self.ensures.expects;
       supply = stays_on g.M.Memory.laws (accepted g.C.ImageCheck.check) self.layout self.phase (packet self.receiver) c.args.inputs
-          c.args.memory.now c.restore.new.self c.mend.new.memory fit c.restore.ensures c.in-ok-mend.ensures;
+          c.args.memory.now c.restore.new.self c.mend.new.memory fit c.restore.ensures c.in_ok-mend.ensures;
     }

@@ -9,4 +9,4 @@ returns-clause-writes g c =
     let up : n / 16 < 16 = omega arith in
     let high = encoded c.digit-high.result (n / 16 % 16) (n / 16) c.digit-high.ensures (mod-eq_of_lt up) up in
     let low = encoded c.digit-low.result (n % 16) (n % 16) c.digit-low.ensures refl (omega arith) in
-    λ plain ok. simp (high, low) at (c.write.ensures.shows plain ok)
+    λ plain ok. simp (high, low) at (c.write.ensures.writes plain ok)

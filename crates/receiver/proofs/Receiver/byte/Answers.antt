@@ -30,8 +30,8 @@ returns-in-SumLow-default c =
       keeps = ap (λ (x : Receiving). sofar x s.buffer ++ c.args.byte ∷ []) (sym p.is-0);
     }
 
-pub returns-then-from-le-bytes-sum : goal.returns-then-from-le-bytes-sum
-returns-then-from-le-bytes-sum c =
+pub returns-then-from_le_bytes-sum : goal.returns-then-from_le_bytes-sum
+returns-then-from_le_bytes-sum c =
     let p = c.in-SumHigh-default in
     let over : c.sum-sum.result ≡ ccitt (take p.need c.args.self.now.buffer) =
     rw (← c.from-in-SumHigh-default.ensures) c.sum-sum.ensures in
@@ -41,8 +41,8 @@ returns-then-from-le-bytes-sum c =
       keeps = refl;
     }
 
-pub returns-else-from-le-bytes-sum : goal.returns-else-from-le-bytes-sum
-returns-else-from-le-bytes-sum c =
+pub returns-else-from_le_bytes-sum : goal.returns-else-from_le_bytes-sum
+returns-else-from_le_bytes-sum c =
     let p = c.in-SumHigh-default in
     let over : c.sum-sum.result ≡ ccitt (take p.need c.args.self.now.buffer) =
     rw (← c.from-in-SumHigh-default.ensures) c.sum-sum.ensures in

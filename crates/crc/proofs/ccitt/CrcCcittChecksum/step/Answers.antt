@@ -14,11 +14,11 @@ within c = xor_lt 8 (c.args.register / 256) c.from.result (shr_below c.args.regi
 pub bounds-register : goal.bounds-register
 bounds-register c = within c
 
-pub overflow-cast-result : goal.overflow-cast-result
-overflow-cast-result c = record { fits = omega (arith, within c) }
+pub overflow_cast-result : goal.overflow_cast-result
+overflow_cast-result c = record { fits = omega (arith, within c) }
 
-pub offset-bounds-register : goal.offset-bounds-register
-offset-bounds-register c = record { fits = omega (arith, within c) }
+pub offset_bounds-register : goal.offset_bounds-register
+offset_bounds-register c = record { fits = omega (arith, within c) }
 
 pub returns : goal.returns
 unfolding shifts

@@ -9,8 +9,8 @@ use Rattle.crc.proofs.crc8.Crc8Checksum.step.Goals as goal
 pub bounds-register : goal.bounds-register
 bounds-register c = xor_lt 8 c.args.register c.args.byte (search rules) (search rules)
 
-pub overflow-cast-result : goal.overflow-cast-result
-overflow-cast-result c =
+pub overflow_cast-result : goal.overflow_cast-result
+overflow_cast-result c =
     let h : bit_xor c.args.register c.args.byte < 256 =
     xor_lt 8 c.args.register c.args.byte (search rules) (search rules) in
     record { fits = omega arith }

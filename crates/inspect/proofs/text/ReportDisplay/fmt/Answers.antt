@@ -2,4 +2,4 @@ use Rattle.std.proofs.Common.{append_assoc}
 use Rattle.inspect.proofs.text.ReportDisplay.fmt.Goals as goal
 
 pub returns-clause-writes : goal.returns-clause-writes
-returns-clause-writes g c = λ plain ok. simp append_assoc at (c.write.ensures.shows plain ok)
+returns-clause-writes g c = λ plain ok. simp append_assoc at (c.write.ensures.writes plain ok)

@@ -10,7 +10,7 @@ pub returns-in-Torn : goal.returns-in-Torn
 returns-in-Torn g c =
     let cells = g.C.Cells.rules in
     let m = c.args.self.now in
-    let place = c.saturating-mul-place.result in
+    let place = c.saturating_mul-place.result in
     let e = c.in-Torn.ensures in
     let same : place ≡ 512 * c.args.segment = omega (arith, e.within tt) in
     let n : place + 512 - place ≡ 512 = omega arith in
@@ -25,7 +25,7 @@ pub returns-in-Finishes : goal.returns-in-Finishes
 returns-in-Finishes g c =
     let cells = g.C.Cells.rules in
     let m = c.args.self.now in
-    let place = c.saturating-mul-place.result in
+    let place = c.saturating_mul-place.result in
     let e = c.in-Finishes.ensures in
     let same : place ≡ 512 * c.args.segment = omega (arith, e.within tt) in
     let bytes : c.begin.new.self.bytes.now ≡ m.bytes.now = ap (λ (x : Simulated g.row.C.Denot). x.bytes.now) e.counted in
