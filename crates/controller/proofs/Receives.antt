@@ -17,7 +17,7 @@ use Rattle.rule.specs.Calls.{Machine, Called, did, Made, whole, cut}
 use Rattle.rule.specs.Command.{Effect, effect, obey}
 use Rattle.rule.specs.Frame.{Verdict, more, wrong, good, judge}
 use Rattle.rule.specs.Frames.{Receiver, frames, framed, is_listening, hear, answers, JumpFrame}
-use Rattle.rule.specs.FramesLaw.{frames_law}
+use Rattle.rule.proofs.FramesLaw.{frames_law}
 use Rattle.words.specs.declared.Answer.{Answer}
 use Rattle.words.specs.declared.Call.TheVariants.{Tell}
 use Rattle.words.specs.declared.Job.TheVariants.{HostCommand}

@@ -6,7 +6,7 @@ use Rattle.rule.specs.Calls.{downloaded, whole, cut, Called, mismatch, unheard, 
 use Rattle.rule.specs.Rule.{Said, Accepted}
 use Rattle.rule.specs.Command.{jump}
 use Rattle.rule.specs.Frames.{is_listening, JumpFrame, JumpAnswered, JumpsTold}
-use Rattle.rule.specs.FramesLaw.{jump_plan}
+use Rattle.rule.proofs.FramesLaw.{jump_plan}
 use Rattle.words.specs.declared.Call.TheVariants.{Tell}
 use Rattle.words.specs.declared.Outcome.TheVariants as Outcome
 use Rattle.words.specs.declared.Reply.TheVariants.{Answered}

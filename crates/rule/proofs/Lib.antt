@@ -5,3 +5,4 @@ pub mod Runs
 pub mod Jumps
 pub mod Good
 pub mod Unfinished
+pub mod FramesLaw

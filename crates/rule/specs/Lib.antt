@@ -6,4 +6,3 @@ pub mod Rule
 pub mod Frame
 pub mod Command
 pub mod Frames
-pub mod FramesLaw

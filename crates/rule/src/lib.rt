@@ -3,8 +3,7 @@ ghost use Rattle.image.specs.Check.{accepted};
 ghost use Rattle.rule.specs.Bus.{Bus, Law};
 ghost use Rattle.rule.specs.Calls.{engine};
 ghost use Rattle.rule.specs.Rule.{Rule};
-ghost use Rattle.rule.specs.Frames.{frames, Unfinished, ActsOnGoodFrames, JumpsTold};
-ghost use Rattle.rule.specs.FramesLaw.{frames_law};
+ghost use Rattle.rule.specs.Frames.{Unfinished, ActsOnGoodFrames, JumpsTold};
 
 use image::ImageCheck;
 use memory::Memory;
@@ -14,16 +13,6 @@ pub trait HostBus {
     ghost bus: { Bus };
 
     ghost law: { Law bus };
-}
-
-// MSPBoot's frames, a byte at a time.
-#[derive(Drop)]
-pub struct Frames;
-
-impl HostBus for Frames {
-    ghost bus = { frames };
-
-    ghost law = { frames_law };
 }
 
 // The rule on cuts, for two controllers over any two memories and any two buses, with one image check.

@@ -1,6 +1,6 @@
 use Rattle.image.specs.Check.{accepted}
 use Rattle.rule.specs.Frames.{framed}
-use Rattle.rule.specs.FramesLaw.{frames_law}
+use Rattle.rule.proofs.FramesLaw.{frames_law}
 use Rattle.rule.proofs.Runs.{rule}
 use Rattle.controller.proofs.rehearse.Goals as goal
 

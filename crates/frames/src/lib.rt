@@ -1,0 +1,16 @@
+#![tactic(auto)]
+// MSPBoot's frames as the bus of a host.
+ghost use Rattle.rule.specs.Frames.{frames};
+ghost use Rattle.rule.proofs.FramesLaw.{frames_law};
+
+use rule::HostBus;
+
+// MSPBoot's frames, a byte at a time.
+#[derive(Drop)]
+pub struct Frames;
+
+impl HostBus for Frames {
+    ghost bus = { frames };
+
+    ghost law = { frames_law };
+}
