@@ -1,8 +1,8 @@
 -- Whether an area is startable, by what is read at its places.
-use Rattle.std.proofs.Common.{◌≡◌, ℕ, ◌+◌, ◌-◌, ◌^◌, ◌<◌, ◌≤◌, min, Bool, true, false, cond, not, eqb, ltb, List, length, get_or, Some, None, sym, ap, ◌∙◌, ap₂, ⊎_elim, arith}
-use Rattle.std.proofs.lemmas.Bool.{cases_lt, cond-true, cond-false, lt-ltb, le-ltb, eq-eqb, ne_eqb}
+use Rattle.std.proofs.Common.{◌≡◌, ℕ, ◌+◌, ◌-◌, ◌^◌, ◌<◌, ◌≤◌, min, Bool, false, cond, not, ltb, List, length, get_or, Some, sym, ap, ◌∙◌, ap₂, ⊎_elim, arith}
+use Rattle.std.proofs.lemmas.Bool.{cases_lt, cond-false, le-ltb, eq-eqb, ne_eqb}
 use Rattle.std.proofs.lemmas.List.{get_or_default, get_or_past}
-use Rattle.memory.specs.State.{State, at, size, Lawful}
+use Rattle.memory.specs.State.{State, at, Lawful}
 use Rattle.image.specs.Sums.{word}
 use Rattle.image.specs.Startable.{entry, enters, startable}
 use Rattle.area.specs.Reads.{Reads}

@@ -1,4 +1,6 @@
 // Whether an area of a memory may be started, told without a copy of the area.
+#![tactic(auto)]
+
 ghost use Rattle.std.specs.Prelude.{◌≡◌, ℕ, List};
 ghost use Rattle.image.specs.Check.{accepted};
 ghost use Rattle.image.specs.Startable.{startable};

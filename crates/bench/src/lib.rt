@@ -1,4 +1,6 @@
 // A bench: an input is read, its calls are played on a controller over a simulated memory, and each is told in a line.
+#![tactic(auto)]
+
 ghost use Rattle.std.specs.Prelude.{◌≡◌, IfOk};
 ghost use Rattle.script.specs.Whole.{script as the_script};
 ghost use Rattle.bench.specs.Told.{Benched, BenchedOn, Told};

@@ -1,5 +1,5 @@
 -- Commands as the code has them, by their effects.
-use Rattle.std.specs.Prelude.{◌≡◌, ℕ, Bool, List, [], Ok, Err, Result}
+use Rattle.std.specs.Prelude.{◌≡◌, Bool, [], Ok, Err, Result}
 use Rattle.memory.specs.Make.{Make}
 use Rattle.memory.specs.Ran.{Ran, erases}
 use Rattle.memory.specs.declared.Fault.{Fault}

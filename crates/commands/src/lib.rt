@@ -1,4 +1,6 @@
 // The commands of the host, and what each does to the memory.
+#![tactic(auto)]
+
 ghost use Rattle.std.specs.Prelude.{◌≡◌, ℕ, Bool, List};
 ghost use Rattle.image.specs.Check.{accepted};
 ghost use Rattle.image.specs.Startable.{startable};

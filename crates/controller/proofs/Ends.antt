@@ -1,22 +1,16 @@
 -- How the changes of a call end: the supply with them, and never past the end of a memory of the right size.
-use Rattle.std.proofs.Common.{◌≡◌, ℕ, ◌+◌, ◌<◌, ◌≤◌, Bool, true, false, List, Ok, Err, Result, sym, refl, ap, ◌∙◌, subst, arith}
-use Rattle.memory.specs.State.{State, size, at}
-use Rattle.memory.specs.Change.{Change, first, span, End, Changed, past, off, finished, torn}
+use Rattle.std.proofs.Common.{◌≡◌, ℕ, ◌+◌, ◌≤◌, true, false, List, Ok, Err, Result, refl, ap, ◌∙◌, arith}
+use Rattle.memory.specs.State.{State, size}
+use Rattle.memory.specs.Change.{Change, End, Changed, past, off, finished, torn}
 use Rattle.memory.specs.Make.{Make, Laws}
 use Rattle.memory.specs.Ran.{Ran, none, stop, more, Within}
-use Rattle.memory.specs.declared.Fault.{Fault}
 use Rattle.memory.specs.declared.Fault.TheVariants as F
 use Rattle.memory.proofs.Effects.{not_refused, changed_apart}
 use Rattle.area.specs.Reads.{Reads}
 use Rattle.layout.specs.Areas.{part}
-use Rattle.rule.specs.Bus.{Control, fresh}
-use Rattle.rule.specs.Calls.{Engine, Machine, layout, Made, whole, cut}
-use Rattle.rule.specs.Performed.{Performed, refusing, ended}
+use Rattle.rule.specs.Performed.{Performed, ended}
 use Rattle.rule.proofs.Areas.{part_length, part_at}
 use Rattle.words.specs.declared.Job.{Job}
-use Rattle.words.specs.declared.Outcome.{Outcome}
-use Rattle.words.specs.declared.Outcome.TheVariants.{Refused}
-use Rattle.words.specs.declared.Phase.TheVariants.{Waiting}
 use Rattle.words.specs.declared.Refusal.{Refusal}
 use Rattle.words.specs.declared.Refusal.TheVariants.{SupplyLost}
 

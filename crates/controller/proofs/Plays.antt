@@ -1,11 +1,10 @@
 -- Calls made one after the other.
-use Rattle.std.proofs.Common.{◌≡◌, ℕ, ◌+◌, ◌<◌, ◌≤◌, Bool, List, [], ◌∷◌, ◌++◌, map, length, get_or, take, set, Some, sym, refl, ap, ◌∙◌, subst, ap₂}
+use Rattle.std.proofs.Common.{◌≡◌, ℕ, ◌+◌, ◌<◌, ◌≤◌, Bool, List, [], ◌∷◌, ◌++◌, map, length, get_or, take, set, Some, sym, refl, ap, ◌∙◌}
 use Rattle.std.proofs.lemmas.List.{map_push, map-set, get_or-map, set-get_or, take_more_set, take_all}
 use Rattle.memory.specs.Make.{Make}
 use Rattle.rule.specs.Calls.{Engine, Machine, Called}
 use Rattle.rule.specs.Frames.{framed}
 use Rattle.rule.specs.Rule.{Step, History}
-use Rattle.words.specs.declared.Call.{Call}
 use Rattle.words.specs.declared.Outcome.{Outcome}
 use Rattle.words.specs.declared.Reply.{Reply}
 use Rattle.words.specs.declared.Turn.{Turn}

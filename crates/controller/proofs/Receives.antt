@@ -1,22 +1,21 @@
 -- A received byte, by what its code does in turn.
-use Rattle.std.proofs.Common.{◌≡◌, ℕ, ◌+◌, ◌*◌, ◌≤◌, Bool, true, ◌⊎◌, List, [], ◌∷◌, ◌++◌, Ok, Err, Result, sym, refl, ap, ◌∙◌, subst, ap₂, inl, inr, arith}
+use Rattle.std.proofs.Common.{◌≡◌, ℕ, Bool, true, ◌⊎◌, List, [], ◌∷◌, ◌++◌, Ok, Err, Result, sym, refl, ap, ◌∙◌, subst, ap₂, inl, inr, arith}
 use Rattle.std.proofs.lemmas.Bool.{eq-eqb}
 use Rattle.memory.specs.State.{size}
 use Rattle.memory.specs.Change.{Change}
 use Rattle.memory.specs.Make.{Make, Laws}
 use Rattle.memory.specs.Ran.{none, Within}
-use Rattle.memory.proofs.Effects.{ran_as}
 use Rattle.area.specs.Reads.{Reads}
 use Rattle.commands.specs.Obeyed.{Obeyed, response}
 use Rattle.commands.specs.declared.Response.{Response}
 use Rattle.image.specs.Startable.{startable}
 use Rattle.layout.specs.Areas.{size as whole_size, download_place, application_place, application_size, download}
 use Rattle.layout.specs.declared.divided.Layout.{Layout}
-use Rattle.rule.specs.Bus.{Plan, Approves, Harmless, idle, fills}
+use Rattle.rule.specs.Bus.{Plan, Harmless, idle, fills}
 use Rattle.rule.specs.Calls.{Machine, Called, did, Made, whole, cut}
-use Rattle.rule.specs.Command.{Effect, effect, obey}
+use Rattle.rule.specs.Command.{Effect, obey}
 use Rattle.rule.specs.Frame.{Verdict, more, wrong, good, judge}
-use Rattle.rule.specs.Frames.{Receiver, frames, framed, is_listening, hear, answers, JumpFrame}
+use Rattle.rule.specs.Frames.{Receiver, frames, framed, is_listening, hear, JumpFrame}
 use Rattle.rule.proofs.FramesLaw.{frames_law}
 use Rattle.words.specs.declared.Answer.{Answer}
 use Rattle.words.specs.declared.Call.TheVariants.{Tell}

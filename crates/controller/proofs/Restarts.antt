@@ -1,5 +1,5 @@
 -- A restart, by what its code does in turn.
-use Rattle.std.proofs.Common.{◌≡◌, ℕ, ◌+◌, ◌*◌, ◌≤◌, Bool, true, false, eqb, List, [], length, Ok, Err, Result, sym, refl, ap, ◌∙◌, subst, ap₂, arith}
+use Rattle.std.proofs.Common.{◌≡◌, ℕ, ◌+◌, ◌*◌, Bool, true, List, [], length, Ok, Err, Result, sym, refl, ap, ◌∙◌, subst, ap₂, arith}
 use Rattle.std.proofs.lemmas.Bool.{eq-eqb, false≢true}
 use Rattle.memory.specs.State.{size}
 use Rattle.memory.specs.Make.{Make, Laws}
@@ -8,10 +8,8 @@ use Rattle.area.specs.Reads.{Reads}
 use Rattle.layout.specs.Areas.{size as whole_size, application_place, application_size, application}
 use Rattle.layout.specs.declared.divided.Layout.{Layout}
 use Rattle.mending.specs.Mended.{Mended, mismatch, done}
-use Rattle.rule.specs.Bus.{Control}
 use Rattle.rule.specs.Calls.{Machine, Called, did, Made, whole, cut}
 use Rattle.rule.specs.Frames.{framed}
-use Rattle.rule.specs.Performed.{Performed}
 use Rattle.rule.specs.Restart.{mends, restart_job, choice}
 use Rattle.rule.proofs.Mend.{mends_within}
 use Rattle.words.specs.declared.Call.TheVariants.{Restart}

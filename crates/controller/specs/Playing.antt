@@ -7,7 +7,6 @@ use Rattle.rule.specs.Calls.{Machine}
 use Rattle.rule.specs.Frames.{frames, framed}
 use Rattle.rule.specs.Rule.{Step, History, Commissioned}
 use Rattle.words.specs.declared.Call.{Call}
-use Rattle.words.specs.declared.Outcome.{Outcome}
 use Rattle.words.specs.declared.Phase.TheVariants.{Waiting}
 use Rattle.words.specs.declared.Refusal.{Refusal}
 use Rattle.words.specs.declared.Reply.{Reply}

@@ -1,4 +1,6 @@
 // A controller with two images: commissioning, receiving and restarting, over any memory and any image check.
+#![tactic(auto)]
+
 ghost use Rattle.std.specs.Prelude.{◌≡◌, ℕ, List};
 ghost use Rattle.image.specs.Check.{accepted};
 ghost use Rattle.area.specs.Reads.{Reads};

@@ -1,5 +1,5 @@
 -- The register is linear over XOR, so that a byte can be fed by a table. Proved once, over the width and the polynomial.
-use Rattle.std.proofs.Common.{◌≡◌, ℕ, zero, suc, ◌+◌, ◌-◌, ◌*◌, ◌/◌, ◌%◌, ◌^◌, ◌<◌, ◌≤◌, Bool, true, false, cond, eqb, sym, refl, ap, ◌∙◌, subst, ap₂, add-zero, mod-eq_of_lt, mul_assoc, le-mul_of_pos_right, arith}
+use Rattle.std.proofs.Common.{◌≡◌, ℕ, zero, suc, ◌+◌, ◌-◌, ◌*◌, ◌/◌, ◌%◌, ◌^◌, ◌<◌, ◌≤◌, cond, eqb, sym, refl, ap, ◌∙◌, subst, ap₂, add-zero, mod-eq_of_lt, mul_assoc, le-mul_of_pos_right, arith}
 use native.Mathlib.Nat.{div-eq_of_lt, pow-succ', mul-mod_left}
 use lib.Bits.{bit_xor, xor_assoc, xor_comm, xor_zero_r, xor_self, xor_block, xor_shifted, xor_mod, xor_shr, xor_lt}
 use Rattle.std.proofs.lemmas.Nat.{pow_pos, div_below, shr_split, shr_below, shl_below, shl-shr, mod-pow-add, mod_below}

@@ -1,4 +1,6 @@
 // Checksums by a shift register: CRC-CCITT and CRC-8, each by a table whose rule is the register's.
+#![tactic(auto)]
+
 ghost use Rattle.std.specs.Prelude.{◌≡◌, ℕ, fold};
 ghost use Rattle.crc.specs.Register.{Linear};
 

@@ -1,4 +1,6 @@
 // Numbers in upper-case hexadecimal digits.
+#![tactic(auto)]
+
 ghost use Rattle.std.specs.Prelude.{◌≡◌, ℕ, ◌+◌, ◌/◌, ◌%◌, ◌<◌, Some};
 ghost use Rattle.hex_digits.specs.Digits.{digit as the_digit, byte_digits, word_digits};
 

@@ -1,5 +1,5 @@
 -- What each check accepts, told with no state: after the stored sum, the state is that sum beside the register.
-use Rattle.std.proofs.Common.{◌≡◌, ℕ, ◌≤◌, Bool, true, false, eqb, ◌↔◌, List, [], ◌∷◌, length, fold, sym, refl, ap, ◌∙◌, arith}
+use Rattle.std.proofs.Common.{◌≡◌, ℕ, Bool, true, eqb, ◌↔◌, List, [], ◌∷◌, fold, sym, refl, ap, ◌∙◌, arith}
 use Rattle.std.proofs.lemmas.Bool.{eqb-true, eq-eqb, false≢true}
 use Rattle.crc.specs.Register.{fed}
 use Rattle.crc.specs.Sums.{ccitt, crc8}

@@ -1,4 +1,6 @@
 // Image checks, and whether an area may be started.
+#![tactic(auto)]
+
 ghost use Rattle.std.specs.Prelude.{◌≡◌, ℕ, ◌<◌, ◌≤◌, length, take, drop, MatchOption};
 ghost use Rattle.image.specs.Check.{Check, accepted};
 ghost use Rattle.image.specs.Sums.{Meanings};

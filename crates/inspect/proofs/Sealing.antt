@@ -1,5 +1,5 @@
 -- An image whose first two bytes were set to its sum holds that sum, and the CRC-CCITT check accepts it.
-use Rattle.std.proofs.Common.{◌≡◌, ℕ, ◌+◌, ◌*◌, ◌/◌, ◌%◌, ◌<◌, ◌≤◌, true, List, [], ◌∷◌, length, get_or, drop, set, sym, refl, ap, ◌∙◌, ap₂, mod-eq_of_lt, arith}
+use Rattle.std.proofs.Common.{◌≡◌, ℕ, ◌/◌, ◌%◌, ◌<◌, ◌≤◌, true, List, [], ◌∷◌, length, get_or, drop, set, mod-eq_of_lt, arith}
 use Rattle.crc.specs.Sums.{ccitt}
 use Rattle.image.specs.Check.{accepted}
 use Rattle.image.specs.Sums.{ccitt_check}

@@ -1,4 +1,6 @@
 // What there is to tell of an application image, and an image with its stored sum put right.
+#![tactic(auto)]
+
 ghost use Rattle.std.specs.Prelude.{◌≡◌};
 ghost use Rattle.image.specs.Check.{accepted};
 ghost use Rattle.inspect.specs.Facts.{ccitt_sums, crc8_sums, verdict, report, Judged};

@@ -1,4 +1,6 @@
 // How a memory is divided into areas.
+#![tactic(auto)]
+
 mod divided;
 
 pub use divided::Layout;

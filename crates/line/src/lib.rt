@@ -1,4 +1,6 @@
 // The lines that a bench writes: how each event of its script came out.
+#![tactic(auto)]
+
 ghost use Rattle.std.specs.Prelude.{◌≡◌, ◌%◌, [], ◌∷◌, ◌++◌, IfOk, Some, decimal, OnOk};
 ghost use Rattle.hex_digits.specs.Digits.{digit as the_digit};
 ghost use Rattle.line.specs.One.{letter as the_letter, value as the_value, line_bytes};

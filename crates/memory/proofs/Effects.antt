@@ -1,7 +1,7 @@
 -- What a list of changes does to a memory, however far it got.
-use Rattle.std.proofs.Common.{◌≡◌, ℕ, zero, suc, ◌+◌, ◌*◌, ◌<◌, ◌≤◌, ◌⊎◌, List, [], ◌∷◌, ◌++◌, length, get_or, take, Ok, Err, sym, refl, ap, ◌∙◌, subst, inl, inr, ⊎_elim, add-zero, arith}
+use Rattle.std.proofs.Common.{◌≡◌, ℕ, zero, suc, ◌+◌, ◌*◌, ◌<◌, ◌≤◌, List, [], ◌∷◌, ◌++◌, length, get_or, take, Ok, Err, sym, refl, ap, ◌∙◌, subst, inl, inr, ⊎_elim, add-zero, arith}
 use Rattle.std.proofs.lemmas.Bool.{cases_lt}
-use Rattle.memory.specs.State.{State, size, at, Lawful}
+use Rattle.memory.specs.State.{State, size, at}
 use Rattle.memory.specs.Change.{Change, write, erase, first, span, left, End, Apart, Changed, past, off, finished, torn}
 use Rattle.memory.specs.Make.{Make, Laws}
 use Rattle.memory.specs.Ran.{Ran, none, stop, more, writes, erases, Within, Written, Erased, WritingLost, ErasingLost, Wrote, Cleared}

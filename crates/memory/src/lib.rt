@@ -1,4 +1,6 @@
 // A memory whose supply may fail in any change, and changes made in turn over any such memory.
+#![tactic(auto)]
+
 ghost use Rattle.std.specs.Prelude.{◌≡◌};
 ghost use Rattle.memory.specs.State.{size as the_size, at};
 ghost use Rattle.memory.specs.Change.{write, erase, fault_number};

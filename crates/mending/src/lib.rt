@@ -1,4 +1,6 @@
 // What a restart does to the memory: an approved image is brought into place, and any mark goes.
+#![tactic(auto)]
+
 ghost use Rattle.std.specs.Prelude.{◌≡◌, ◌+◌, ◌*◌, ◌<◌, ◌≤◌};
 ghost use Rattle.memory.specs.State.{size as the_size};
 ghost use Rattle.memory.specs.Ran.{Ran};

@@ -1,9 +1,9 @@
 -- A list of changes of a simulated memory has one outcome.
-use Rattle.std.proofs.Common.{◌≡◌, ℕ, true, List, [], ◌∷◌, Ok, Err, sym, refl, ap, ◌∙◌, Bor, MutBor}
+use Rattle.std.proofs.Common.{◌≡◌, ℕ, true, List, [], ◌∷◌, Ok, Err, sym, ap, ◌∙◌, Bor, MutBor}
 use Rattle.memory.specs.Change.{Change, End}
 use Rattle.memory.specs.Ran.{Ran, none, stop, more}
 use Rattle.models.specs.Cells.{Cells}
-use Rattle.models.specs.Simulated.{changed, made, simulated, Exact, Fresh}
+use Rattle.models.specs.Simulated.{made, simulated, Exact, Fresh}
 use Rattle.models.specs.declared.simulated.Cut.{Cut}
 use Rattle.models.specs.declared.simulated.Simulated.{Simulated}
 

@@ -1,5 +1,5 @@
 -- Parts of a slice that were written as a whole: the front of a segment, and a segment of a memory's bytes.
-use Rattle.std.proofs.Common.{◌≡◌, ℕ, ◌+◌, ◌-◌, ◌*◌, ◌≤◌, min, List, ◌++◌, length, take, drop, replicate, sym, refl, ap, ◌∙◌, ap₂, arith, length-take}
+use Rattle.std.proofs.Common.{◌≡◌, ℕ, ◌+◌, ◌-◌, ◌*◌, min, List, ◌++◌, length, take, drop, replicate, ap, ◌∙◌, ap₂, arith, length-take}
 use borrow.Rule.Slice.PartMut.{post_of, put_mid}
 use Rattle.std.proofs.lemmas.List.{drop-drop}
 use Rattle.memory.specs.Change.{erase, End}

@@ -1,4 +1,6 @@
 // Two simulated memories with exact cuts, flash and FRAM, over bytes and a list of cuts that the caller holds.
+#![tactic(auto)]
+
 ghost use Rattle.models.specs.Simulated.{Exact};
 
 mod cells;

@@ -1,4 +1,6 @@
 // The receiver of MSPBoot's frames: bytes come one at a time, and each continues a frame, completes it or is an error.
+#![tactic(auto)]
+
 ghost use Rattle.std.specs.Prelude.{◌<◌, ◌≤◌};
 ghost use Rattle.receiver.specs.Progress.{need_of, index_of};
 

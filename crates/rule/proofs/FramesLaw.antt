@@ -3,13 +3,13 @@ use Rattle.std.specs.Prelude.{◌≡◌, ℕ, ◌+◌, ◌-◌, ◌*◌, ◌%◌
 use Rattle.std.proofs.Common.{sym, ap, subst, ◌∙◌, inl, inr, arith}
 use Rattle.std.proofs.lemmas.Bool.{and_parts, ltb-true, leb-true, eqb-true, cond_both, false≢true}
 use Rattle.memory.specs.Change.{Change}
-use Rattle.memory.specs.Ran.{erases, Within}
+use Rattle.memory.specs.Ran.{Within}
 use Rattle.memory.proofs.Effects.{writes_within, erases_within}
 use Rattle.layout.specs.Areas.{address, application_place, application_size, download_place}
 use Rattle.layout.specs.declared.divided.Layout.{Layout}
 use Rattle.rule.specs.Bus.{Plan, Approves, Harmless, idle, fills, Law}
 use Rattle.rule.specs.Frame.{Verdict, more, wrong, good, judge}
-use Rattle.rule.specs.Command.{Effect, effect, allowed, erase_segment, write_block, jump, at_address, obey}
+use Rattle.rule.specs.Command.{Effect, allowed, erase_segment, write_block, jump, at_address, obey}
 use Rattle.rule.specs.Frames.{Receiver, is_listening, answers, hear, JumpFrame, frames}
 use Rattle.words.specs.declared.Phase.{Phase}
 use Rattle.words.specs.declared.Phase.TheVariants.{Waiting, Listening, Running}

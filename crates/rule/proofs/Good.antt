@@ -1,11 +1,11 @@
 -- Frames: the bytes since the last answer are acted on exactly where they form a good frame.
-use Rattle.std.proofs.Common.{◌≡◌, ℕ, zero, suc, ◌+◌, ◌-◌, ◌*◌, ◌/◌, ◌%◌, ◌<◌, ◌≤◌, cond, eqb, ltb, ◌↔◌, List, [], ◌∷◌, ◌++◌, length, get_or, take, sym, refl, ap, ◌∙◌, subst, ap₂, arith, length-append, length-take, ltb-false, ltb-true, le-ltb, eq-eqb, ne_eqb, eqb-true}
+use Rattle.std.proofs.Common.{◌≡◌, ℕ, zero, suc, ◌+◌, ◌-◌, ◌*◌, ◌/◌, ◌%◌, ◌<◌, ◌≤◌, cond, eqb, ltb, List, [], ◌∷◌, ◌++◌, length, get_or, take, sym, refl, ap, ◌∙◌, arith, length-append, length-take, ltb-false, ltb-true, le-ltb, eq-eqb, ne_eqb, eqb-true}
 use borrow.Author.Tests.{eqb-false}
 use Rattle.std.proofs.lemmas.Bool.{cond_both, cond-true, cond-false}
 use Rattle.std.proofs.lemmas.List.{get_or-append_right}
 use Rattle.crc.specs.Sums.{ccitt}
 use Rattle.image.specs.Sums.{word}
-use Rattle.rule.specs.Frame.{Verdict, more, wrong, good, summed, sized, judge}
+use Rattle.rule.specs.Frame.{Verdict, more, wrong, good, sized}
 use Rattle.rule.specs.Frames.{GoodFrame, ActsOnGoodFrames}
 use Rattle.words.specs.declared.Answer.TheVariants.{HeaderError}
 

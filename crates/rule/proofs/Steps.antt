@@ -1,5 +1,5 @@
 -- What one call leaves, in the words of the rule.
-use Rattle.std.proofs.Common.{◌≡◌, ℕ, ◌+◌, ◌*◌, ◌≤◌, Bool, true, ◌⊎◌, List, [], ◌∷◌, length, Ok, Err, sym, refl, ap, ◌∙◌, subst, inl, inr, ⊎_elim, arith}
+use Rattle.std.proofs.Common.{◌≡◌, ℕ, ◌+◌, ◌*◌, ◌≤◌, Bool, true, ◌⊎◌, List, [], ◌∷◌, length, Ok, sym, refl, ap, ◌∙◌, subst, inl, inr, ⊎_elim, arith}
 use Rattle.std.proofs.lemmas.Bool.{eq-eqb, false≢true}
 use Rattle.memory.specs.Change.{Change, write, End}
 use Rattle.memory.specs.Make.{Laws}
@@ -10,14 +10,13 @@ use Rattle.layout.specs.Areas.{size as whole_size, mark, download, application, 
 use Rattle.layout.specs.declared.divided.Layout.{Layout}
 use Rattle.rule.specs.Bus.{Control, Plan, fresh, Approves, Harmless, idle, fills, Law}
 use Rattle.rule.specs.Restart.{mends, choice}
-use Rattle.rule.specs.Calls.{Engine, Machine, layout, bytes, downloaded, applied, booted, Made, whole, cut, Did, heard, Called, mismatch, unheard, did}
+use Rattle.rule.specs.Calls.{Engine, Machine, layout, bytes, downloaded, applied, booted, Made, whole, cut, Did, Called, mismatch, unheard, did}
 use Rattle.rule.specs.Rule.{Said, Chose, Lost, Step, Jump, image}
 use Rattle.words.specs.declared.Call.{Call}
 use Rattle.words.specs.declared.Call.TheVariants.{Tell, Restart}
 use Rattle.words.specs.declared.Inputs.{Inputs}
 use Rattle.words.specs.declared.Job.{Job}
 use Rattle.words.specs.declared.Outcome.{Outcome}
-use Rattle.words.specs.declared.Outcome.TheVariants as Outcome
 use Rattle.words.specs.declared.Phase.TheVariants.{Waiting, Listening}
 use Rattle.words.specs.declared.Refusal.TheVariants.{NotListening}
 use Rattle.rule.proofs.Areas.{ran_part}

@@ -2,8 +2,8 @@
 use Rattle.std.proofs.Common.{◌≡◌, ℕ, Bool, List, [], ◌∷◌, ◌++◌, sym, refl, ap, ◌∙◌, subst}
 use Rattle.memory.specs.Make.{Make}
 use Rattle.image.specs.Startable.{startable}
-use Rattle.rule.specs.Calls.{Machine, downloaded, Made, whole, cut, Called, mismatch, unheard, did}
-use Rattle.rule.specs.Rule.{Step, History, Reached}
+use Rattle.rule.specs.Calls.{Machine, downloaded, whole, cut, Called, mismatch, unheard, did}
+use Rattle.rule.specs.Rule.{Step, History}
 use Rattle.rule.specs.Frame.{Verdict, more, wrong, good, judge}
 use Rattle.rule.specs.Frames.{Receiver, hear, framed, Unfinished}
 use Rattle.words.specs.declared.Call.{Call}

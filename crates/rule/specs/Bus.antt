@@ -1,5 +1,5 @@
 -- A bus, by which a host speaks to a controller, and the law that every bus shows.
-use Rattle.std.specs.Prelude.{◌≡◌, ℕ, ◌+◌, ◌*◌, Bool, true, ◌⊎◌, List, [], ◌∷◌}
+use Rattle.std.specs.Prelude.{◌≡◌, Bool, true, ◌⊎◌, List, [], ◌∷◌}
 use Rattle.memory.specs.Change.{Change, write}
 use Rattle.memory.specs.Ran.{Within}
 use Rattle.layout.specs.Areas.{download_place, application_place}

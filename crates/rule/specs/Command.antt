@@ -1,5 +1,5 @@
 -- Commands: what a good payload asks for, what it changes and what it answers.
-use Rattle.std.specs.Prelude.{ℕ, ◌+◌, ◌-◌, ◌*◌, ◌/◌, ◌%◌, Bool, cond, ◌&&◌, List, [], ◌∷◌, length, ◌==◌, nat_le, nat_lt}
+use Rattle.std.specs.Prelude.{ℕ, ◌+◌, ◌-◌, ◌/◌, ◌%◌, Bool, cond, ◌&&◌, List, [], ◌∷◌, length, ◌==◌, nat_le, nat_lt}
 use Rattle.memory.specs.Change.{Change, write, erase}
 use Rattle.memory.specs.Ran.{writes, erases}
 use Rattle.image.specs.Sums.{word}

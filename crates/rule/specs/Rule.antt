@@ -5,11 +5,9 @@ use Rattle.layout.specs.Areas.{mark}
 use Rattle.rule.specs.Bus.{fresh}
 use Rattle.rule.specs.Calls.{Engine, Machine, layout, bytes, fits, downloaded, applied, booted, Called}
 use Rattle.words.specs.declared.Call.{Call}
-use Rattle.words.specs.declared.Call.TheVariants as Call
 use Rattle.words.specs.declared.Inputs.{Inputs}
 use Rattle.words.specs.declared.Job.{Job}
 use Rattle.words.specs.declared.Outcome.{Outcome}
-use Rattle.words.specs.declared.Outcome.TheVariants as Outcome
 use Rattle.words.specs.declared.Phase.{Phase}
 use Rattle.words.specs.declared.Phase.TheVariants.{Waiting, Running}
 use Rattle.words.specs.declared.Refusal.TheVariants.{SupplyLost}

@@ -1,4 +1,6 @@
 // The rule on cuts: what a controller runs after its supply has failed, whatever its memory, its image check and its bus.
+#![tactic(auto)]
+
 ghost use Rattle.image.specs.Check.{accepted};
 ghost use Rattle.rule.specs.Bus.{Bus, Law};
 ghost use Rattle.rule.specs.Calls.{engine};

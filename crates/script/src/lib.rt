@@ -1,4 +1,6 @@
 // The input of a bench: the layout and the kind of a memory, the cuts of its supply, and the calls to make.
+#![tactic(auto)]
+
 ghost use Rattle.std.specs.Prelude.{◌≡◌, IfOk};
 ghost use Rattle.script.specs.declared.Stop.TheVariants.{Refused as Declined, OutOfMemory};
 ghost use Rattle.script.specs.Events.{event as the_event, events as the_events};

@@ -1,4 +1,6 @@
 // The words of the calls: phases, answers, jobs, refusals and outcomes, with their numbers.
+#![tactic(auto)]
+
 ghost use Rattle.std.specs.Prelude.{◌≡◌};
 ghost use Rattle.words.specs.Numbers.{answer_byte, job_number, refusal_number};
 

@@ -2,7 +2,7 @@
 use Rattle.std.specs.Prelude.{◌≡◌, ℕ, ◌+◌, true, List, [], ◌∷◌, Some, None, codes, Option}
 use Rattle.std.proofs.Common.{lit≤}
 use Rattle.crc.specs.Sums.{ccitt, crc8}
-use Rattle.memory.specs.Change.{Change, erase, first, span}
+use Rattle.memory.specs.Change.{erase, first, span}
 use Rattle.models.specs.Cells.{flash, fram}
 use Rattle.layout.specs.Areas.{address, download_place, application_place, boot_place}
 use Rattle.layout.specs.declared.divided.Layout.{Layout}
@@ -11,7 +11,7 @@ use Rattle.words.specs.declared.Phase.TheVariants.{Listening}
 use Rattle.words.specs.declared.Reply.{Reply}
 use Rattle.words.specs.declared.Reply.TheVariants.{NothingYet, Answered}
 use Rattle.rule.specs.Bus.{Plan}
-use Rattle.rule.specs.Frames.{Receiver, frames}
+use Rattle.rule.specs.Frames.{frames}
 
 -- 14 segments of an application and 2 of the boot area
 abbrev pub example : Layout

@@ -1,4 +1,6 @@
 // The worked examples, computed over the definitions that the contracts cite.
+#![tactic(auto)]
+
 ghost use Rattle.worked.specs.Worked.{Worked};
 
 pub fn worked_examples()

@@ -1,6 +1,6 @@
-use Rattle.std.proofs.Common.{◌≡◌, [], ◌∷◌, ◌++◌, set, replicate, Ok, Err, ap, rules}
+use Rattle.std.proofs.Common.{◌≡◌, [], ◌∷◌, set, replicate, Err, ap, rules}
 use Rattle.memory.specs.Change.{End}
-use Rattle.memory.specs.Ran.{writes, erases}
+use Rattle.memory.specs.Ran.{writes}
 use Rattle.memory.specs.declared.Fault.TheVariants.{SupplyLost}
 use Rattle.models.specs.Cells.{flash, fram}
 use Rattle.models.specs.declared.cells.FlashCells.{FlashCells}

@@ -1,4 +1,4 @@
-use Rattle.std.proofs.Common.{true, false, sym, refl, ap, ◌∙◌}
+use Rattle.std.proofs.Common.{sym, refl, ap, ◌∙◌}
 use Rattle.std.proofs.lemmas.Result.{err_from_is_err_and}
 use Rattle.memory.specs.Ran.{none, stop, more}
 use Rattle.rule.specs.Command.{jump}

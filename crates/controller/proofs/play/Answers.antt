@@ -1,6 +1,5 @@
 use Rattle.std.proofs.Common.{◌<◌, length, arith}
 use Rattle.image.specs.Check.{accepted}
-use Rattle.controller.specs.Machines.{machine}
 use Rattle.controller.proofs.Plays.{none_yet, one_more, all_played}
 use Rattle.controller.proofs.play.Goals as goal
 

@@ -1,4 +1,4 @@
-use Rattle.std.proofs.Common.{◌≡◌, refl, rules}
+use Rattle.std.proofs.Common.{refl, rules}
 use Rattle.image.specs.Check.{accepted}
 use Rattle.image.specs.Sums.{ccitt_check, crc8_check, vector_check}
 use Rattle.image.proofs.Stored.{ccitt_means, crc8_means}

@@ -1,4 +1,4 @@
-use Rattle.std.proofs.Common.{◌≡◌, ◌+◌, ◌%◌, ◌^◌, ◌<◌, [], ◌∷◌, ◌++◌, vec_items, ap, ◌∙◌, rules}
+use Rattle.std.proofs.Common.{◌+◌, ◌%◌, ◌^◌, ◌<◌, [], ◌∷◌, ◌++◌, vec_items, ap, ◌∙◌, rules}
 use Rattle.line.proofs.Tail.{one_digit, more_digits}
 use Rattle.line.proofs.+append_decimal.Goals as goal
 use Rattle.line.proofs.+append_decimal.Goals.{then-number-ge10+in_ok-append_decimal, else-number-ge10}

@@ -1,5 +1,5 @@
-use Rattle.std.proofs.Common.{◌≡◌, ◌+◌, ◌≤◌, ◌++◌, length, vec_items, sym, ap, ◌∙◌, append-nil, arith}
-use Rattle.line.specs.Every.{lines_from, last_line}
+use Rattle.std.proofs.Common.{◌++◌, vec_items, sym, ap, ◌∙◌, append-nil, arith}
+use Rattle.line.specs.Every.{last_line}
 use Rattle.line.proofs.Steps.{lines_more, lines_stop, lines_end, two_more}
 use Rattle.line.proofs.lines.Goals as goal
 use Rattle.line.proofs.lines.Goals.{in-Malformed+in_ok-append-2, in_default-ending}

@@ -1,4 +1,4 @@
-use Rattle.std.proofs.Common.{◌≡◌, ◌≤◌, length, vec_items, sym, ◌∙◌, rules}
+use Rattle.std.proofs.Common.{◌≤◌, length, vec_items, sym, rules}
 use Rattle.std.proofs.lemmas.List.{take_rest}
 use Rattle.script.proofs.Sections.{events_at}
 use Rattle.script.proofs.read_events.Goals as goal

@@ -1,4 +1,4 @@
-use Rattle.std.proofs.Common.{sym, refl, ap, ◌∙◌}
+use Rattle.std.proofs.Common.{sym, ap, ◌∙◌}
 use Rattle.image.specs.Check.{accepted}
 use Rattle.receiver.specs.Packet.{packet}
 use Rattle.rule.specs.Frame.{good}

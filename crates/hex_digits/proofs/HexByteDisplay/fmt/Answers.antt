@@ -1,4 +1,4 @@
-use Rattle.std.proofs.Common.{◌≡◌, ◌/◌, ◌%◌, ◌<◌, refl, mod-eq_of_lt, arith, rules}
+use Rattle.std.proofs.Common.{◌/◌, ◌%◌, ◌<◌, refl, mod-eq_of_lt, arith, rules}
 use Rattle.hex_digits.proofs.Encoded.{encoded}
 use Rattle.hex_digits.proofs.HexByteDisplay.fmt.Goals as goal
 

@@ -1,5 +1,5 @@
 -- The table is the list of what eight shifts make of each byte: antt computes its 256 entries, and compares.
-use Rattle.std.proofs.Common.{ℕ, ◌*◌, ◌/◌, ◌%◌, ◌^◌, ◌<◌, sym, ap, ◌∙◌, zero-add, arith, lit<, rules}
+use Rattle.std.proofs.Common.{ℕ, ◌*◌, ◌/◌, ◌%◌, ◌<◌, sym, ap, ◌∙◌, zero-add, arith, lit<, rules}
 use lib.Bits.{bit_xor}
 use Rattle.std.proofs.lemmas.Nat.{xor_lt, shr_below}
 use Rattle.std.proofs.lemmas.List.FromFn.{get_or-map-range_with_len}

@@ -1,4 +1,4 @@
-use Rattle.std.proofs.Common.{◌≡◌, ◌<◌, ◌≤◌, get_or, sym, ◌∙◌, mod-eq_of_lt, rules}
+use Rattle.std.proofs.Common.{◌<◌, ◌≤◌, get_or, sym, ◌∙◌, mod-eq_of_lt, rules}
 use Rattle.models.specs.Simulated.{room}
 use Rattle.models.specs.Views.{get_or-view, get_or-view_past}
 use Rattle.models.proofs.simulated.SimulatedMemory.read.Goals as goal
