@@ -5,13 +5,16 @@
 use inspect::{Misuse, Task};
 use std::env;
 use std::io::{Read, Write};
+use std::process::ExitCode;
 
-fn main(rt: HostRuntime) -> anyhow::Result<()> {
-    let ended = run(&rt);
-    if let Err(why) = &ended {
-        eprintln!(rt; "imagesum: {why}")?;
+fn main(rt: HostRuntime) -> ExitCode {
+    match run(&rt) {
+        Ok(()) => ExitCode::SUCCESS,
+        Err(why) => {
+            let _ = eprintln!(rt; "imagesum: {why}");
+            ExitCode::FAILURE
+        }
     }
-    ended
 }
 
 // The task that the arguments name, which is to inspect where there is none.

@@ -5,12 +5,16 @@ mod changes;
 mod images;
 mod sums;
 
-fn main(rt: HostRuntime) -> anyhow::Result<()> {
-    let ended = run(&rt);
-    if let Err(why) = &ended {
-        eprintln!(rt; "vectors: {why}")?;
+use std::process::ExitCode;
+
+fn main(rt: HostRuntime) -> ExitCode {
+    match run(&rt) {
+        Ok(()) => ExitCode::SUCCESS,
+        Err(why) => {
+            let _ = eprintln!(rt; "vectors: {why}");
+            ExitCode::FAILURE
+        }
     }
-    ended
 }
 
 fn run(rt: &HostRuntime) -> anyhow::Result<()> {
