@@ -49,7 +49,7 @@ abbrev pub TakenOn : Layout → Controller → Controller → Result Unit Refusa
 TakenOn l c d (Ok _) = control d ≡ fresh frames l Waiting
 TakenOn l c d (Err _) = d ≡ c
 
--- the refusals that a restart has, and that it tells a lost supply exactly where the supply is off as it ends
+-- the refusals that a restart has; unless the memory has another size, it tells a lost supply exactly where the supply is off as it ends
 abbrev pub SupplyTold : Result Phase Refusal → State → Type 0
 SupplyTold (Ok phase) s = s.on ≡ true
 SupplyTold (Err BadLayout) s = ⊥

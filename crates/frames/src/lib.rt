@@ -1,5 +1,6 @@
-#![tactic(auto)]
 // MSPBoot's frames as the bus of a host.
+#![tactic(auto)]
+
 ghost use Rattle.rule.specs.Frames.{frames};
 ghost use Rattle.rule.proofs.FramesLaw.{frames_law};
 
