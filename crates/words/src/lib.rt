@@ -5,7 +5,7 @@ ghost use Rattle.std.specs.Prelude.{◌≡◌};
 ghost use Rattle.words.specs.Numbers.{answer_byte, job_number, refusal_number};
 
 // What a controller is doing.
-#[derive(Clone, Copy)]
+#[derive(Clone, Copy, Debug, PartialEq, Eq)]
 pub enum Phase {
     Waiting,
     Listening,
@@ -13,7 +13,7 @@ pub enum Phase {
 }
 
 // The single byte that answers a host.
-#[derive(Clone, Copy)]
+#[derive(Clone, Copy, Debug, PartialEq, Eq)]
 pub enum Answer {
     Done,
     HeaderError,
@@ -25,11 +25,11 @@ pub enum Answer {
     Version,
 }
 
-impl Answer {
-    pub fn byte(self) -> u8
-        ensures { result ≡ answer_byte self }
-    {
-        match self {
+impl From<Answer> for u8 {
+    ghost from_gives = { λ a n. n ≡ answer_byte a };
+
+    fn from(answer: Answer) -> u8 {
+        match answer {
             Answer::Done => 0x00,
             Answer::HeaderError => 0x51,
             Answer::ChecksumError => 0x52,
@@ -43,7 +43,7 @@ impl Answer {
 }
 
 // What was at work when the supply went.
-#[derive(Clone, Copy)]
+#[derive(Clone, Copy, Debug, PartialEq, Eq)]
 pub enum Job {
     Copy,
     MarkErase,
@@ -51,11 +51,11 @@ pub enum Job {
     HostCommand,
 }
 
-impl Job {
-    pub fn number(self) -> u8
-        ensures { result ≡ job_number self }
-    {
-        match self {
+impl From<Job> for u8 {
+    ghost from_gives = { λ j n. n ≡ job_number j };
+
+    fn from(job: Job) -> u8 {
+        match job {
             Job::Copy => 1,
             Job::MarkErase => 2,
             Job::DownloadErase => 3,
@@ -65,7 +65,7 @@ impl Job {
 }
 
 // Why a call is refused. A lost supply comes with the first place of the change that it stopped, and with the job.
-#[derive(Clone, Copy)]
+#[derive(Clone, Copy, Debug, PartialEq, Eq)]
 pub enum Refusal {
     BadLayout,
     SupplyLost { place: usize, job: Job },
@@ -77,6 +77,7 @@ pub enum Refusal {
 }
 
 impl Refusal {
+    // A refusal is more than its number, so this is no conversion.
     pub fn number(self) -> u8
         ensures { result ≡ refusal_number self }
     {
@@ -93,7 +94,7 @@ impl Refusal {
 }
 
 // What a restart is given: the pin's level, and the password and the status word that an application may have left.
-#[derive(Clone, Copy)]
+#[derive(Clone, Copy, Debug, PartialEq, Eq)]
 pub struct Inputs {
     pub pin_high: bool,
     pub password: u16,
@@ -101,29 +102,27 @@ pub struct Inputs {
 }
 
 // A call of a controller: an event of its bus, or a restart.
-#[derive(Clone, Copy)]
+#[derive(Clone, Copy, Debug, PartialEq, Eq)]
 pub enum Call<E> {
     Tell(E),
     Restart(Inputs),
 }
 
-// How a call came out: what the bus says to an event, the phase that a restart chose, or a refusal.
-#[derive(Clone, Copy)]
-pub enum Outcome<R> {
+// What a call that is not refused gives: what the bus says to an event, or the phase that a restart chose.
+#[derive(Clone, Copy, Debug, PartialEq, Eq)]
+pub enum Success<R> {
     Said(R),
     Chose(Phase),
-    Refused(Refusal),
 }
 
-// What the bus of frames says to a byte.
-#[derive(Clone, Copy)]
-pub enum Reply {
-    NothingYet,
-    Answered(Answer),
-}
+// How a call came out.
+pub type Outcome<R> = Result<Success<R>, Refusal>;
+
+// What the bus of frames says to a byte: an answer, or nothing yet.
+pub type Reply = Option<Answer>;
 
 // A call, and how it came out once it has been made.
-#[derive(Clone, Copy)]
+#[derive(Clone, Copy, Debug, PartialEq, Eq)]
 pub struct Turn<E, R> {
     pub call: Call<E>,
     pub outcome: Option<Outcome<R>>,
