@@ -5,8 +5,7 @@ use Rattle.memory.specs.Make.{Make}
 use Rattle.rule.specs.Calls.{Engine, Machine, Called}
 use Rattle.rule.specs.Frames.{framed}
 use Rattle.rule.specs.Rule.{Step, History}
-use Rattle.words.specs.declared.Outcome.{Outcome}
-use Rattle.words.specs.declared.Reply.{Reply}
+use Rattle.words.specs.Outcomes.{Outcome, Reply}
 use Rattle.words.specs.declared.Turn.{Turn}
 use Rattle.controller.specs.Playing.{calls, turn, Played}
 

@@ -1,5 +1,5 @@
 -- A received byte, by what its code does in turn.
-use Rattle.std.proofs.Common.{◌≡◌, ℕ, Bool, true, ◌⊎◌, List, [], ◌∷◌, ◌++◌, Ok, Err, Result, sym, refl, ap, ◌∙◌, subst, ap₂, inl, inr, arith}
+use Rattle.std.proofs.Common.{◌≡◌, ℕ, Bool, true, ◌⊎◌, List, [], ◌∷◌, ◌++◌, Ok, Err, Result, sym, refl, ap, ◌∙◌, subst, ap₂, inl, inr, arith, Some, None}
 use Rattle.std.proofs.lemmas.Bool.{eq-eqb}
 use Rattle.memory.specs.State.{size}
 use Rattle.memory.specs.Change.{Change}
@@ -20,13 +20,11 @@ use Rattle.rule.proofs.FramesLaw.{frames_law}
 use Rattle.words.specs.declared.Answer.{Answer}
 use Rattle.words.specs.declared.Call.TheVariants.{Tell}
 use Rattle.words.specs.declared.Job.TheVariants.{HostCommand}
-use Rattle.words.specs.declared.Outcome.{Outcome}
-use Rattle.words.specs.declared.Outcome.TheVariants.{Said, Refused}
+use Rattle.words.specs.Outcomes.{Outcome, Reply}
+use Rattle.words.specs.declared.Success.TheVariants.{Said}
 use Rattle.words.specs.declared.Phase.{Phase}
 use Rattle.words.specs.declared.Phase.TheVariants.{Waiting, Listening}
 use Rattle.words.specs.declared.Refusal.{Refusal}
-use Rattle.words.specs.declared.Reply.{Reply}
-use Rattle.words.specs.declared.Reply.TheVariants.{NothingYet, Answered}
 use Rattle.controller.proofs.Ends.{reads_part, err_same, ok_same, ok_not_err, ToldEnd, all, lost, told_end}
 
 within_from : (lo hi : ℕ) (cs : List Change) → Within lo hi cs → Within 0 hi cs
@@ -63,17 +61,17 @@ module _ {M : Type 0} {make : Make M} (laws : Laws make) (accepts : List ℕ →
   plan_is e = ap (hear before can (f ++ byte ∷ [])) e
 
   by_plan : {q : Plan (List ℕ) Reply} {n : Machine (framed accepts make)} {o : Outcome Reply} → q ≡ frames.plan before can byte
-      → Made {E = framed accepts make} q.changes (λ _. HostCommand) (with p f m) n o q.next (Said q.says) → Called (Tell byte) (with p f m) n o
+      → Made {E = framed accepts make} q.changes (λ _. HostCommand) (with p f m) n o q.next (Ok (Said q.says)) → Called (Tell byte) (with p f m) n o
   by_plan {n = n} {o = o} e made =
       did (eq-eqb _ _ fit) heard
-      (subst (λ (q : Plan (List ℕ) Reply). Made {E = framed accepts make} q.changes (λ _. HostCommand) (with p f m) n o q.next (Said q.says)) e made)
+      (subst (λ (q : Plan (List ℕ) Reply). Made {E = framed accepts make} q.changes (λ _. HostCommand) (with p f m) n o q.next (Ok (Said q.says))) e made)
 
   -- nothing yet
-  pub goes_on : more ≡ judge (f ++ byte ∷ []) → (g : List ℕ) → g ≡ f ++ byte ∷ [] → Called (Tell byte) (with p f m) (with p g m) (Said NothingYet)
+  pub goes_on : more ≡ judge (f ++ byte ∷ []) → (g : List ℕ) → g ≡ f ++ byte ∷ [] → Called (Tell byte) (with p f m) (with p g m) (Ok (Said None))
   goes_on e g is = by_plan (plan_is e) (whole (none refl refl) (ap (λ x. record { layout = l; phase = p; packet = x }) is) refl)
 
   -- an error is answered
-  pub is_wrong : (a : Answer) → wrong a ≡ judge (f ++ byte ∷ []) → (g : List ℕ) → g ≡ [] → Called (Tell byte) (with p f m) (with p g m) (Said (Answered a))
+  pub is_wrong : (a : Answer) → wrong a ≡ judge (f ++ byte ∷ []) → (g : List ℕ) → g ≡ [] → Called (Tell byte) (with p f m) (with p g m) (Ok (Said (Some a)))
   is_wrong a e g is =
       by_plan (plan_is e) (whole (none refl refl) (ap₂ (λ q x. record { layout = l; phase = q; packet = x }) on is) refl)
 
@@ -89,19 +87,19 @@ module _ {M : Type 0} {make : Make M} (laws : Laws make) (accepts : List ℕ →
         (subst (λ (q : Plan (List ℕ) Reply). Within 0 (application_place l) q.changes) (sym (plan_is e)) (plan_within before can byte heard)) (omega arith)
         (obeyed (download l (make.state m).bytes) (reads_part (make.state m) download_place (application_size l) (omega arith)))
 
-    pub replies : (x : Response) → r ≡ Ok x → (g : List ℕ) → g ≡ [] → Called (Tell byte) (with p f m) (with x.phase g n) (Said (Answered x.answer))
+    pub replies : (x : Response) → r ≡ Ok x → (g : List ℕ) → g ≡ [] → Called (Tell byte) (with p f m) (with x.phase g n) (Ok (Said (Some x.answer)))
     replies x is g none' = by end
       where
-        by : ToldEnd make asked.changes (λ _. HostCommand) (response asked) m n r → Called (Tell byte) (with p f m) (with x.phase g n) (Said (Answered x.answer))
+        by : ToldEnd make asked.changes (λ _. HostCommand) (response asked) m n r → Called (Tell byte) (with p f m) (with x.phase g n) (Ok (Said (Some x.answer)))
         by (all ran told) =
             let same = ok_same (sym is ∙ told) in
-            by_plan (plan_is e) (whole ran (ap₂ (λ q y. record { layout = l; phase = q; packet = y }) (ap (λ v. v.phase) same) none') (ap (λ v. Said (Answered v.answer)) same))
+            by_plan (plan_is e) (whole ran (ap₂ (λ q y. record { layout = l; phase = q; packet = y }) (ap (λ v. v.phase) same) none') (ap (λ v. Ok (Said (Some v.answer))) same))
         by (lost place ran told) = ok_not_err (sym is ∙ told)
 
-    pub is_lost : (d : Refusal) → r ≡ Err d → (g : List ℕ) → g ≡ [] → Called (Tell byte) (with p f m) (with Waiting g n) (Refused d)
+    pub is_lost : (d : Refusal) → r ≡ Err d → (g : List ℕ) → g ≡ [] → Called (Tell byte) (with p f m) (with Waiting g n) (Err d)
     is_lost d is g none' = by end
       where
-        by : ToldEnd make asked.changes (λ _. HostCommand) (response asked) m n r → Called (Tell byte) (with p f m) (with Waiting g n) (Refused d)
+        by : ToldEnd make asked.changes (λ _. HostCommand) (response asked) m n r → Called (Tell byte) (with p f m) (with Waiting g n) (Err d)
         by (all ran told) = ok_not_err (sym told ∙ is)
         by (lost place ran told) =
-            by_plan (plan_is e) (cut place ran (ap (λ y. record { layout = l; phase = Waiting; packet = y }) none') (ap Refused (err_same (sym is ∙ told))))
+            by_plan (plan_is e) (cut place ran (ap (λ y. record { layout = l; phase = Waiting; packet = y }) none') (ap Err (err_same (sym is ∙ told))))

@@ -14,7 +14,7 @@ use Rattle.rule.specs.Restart.{mends, restart_job, choice}
 use Rattle.rule.proofs.Mend.{mends_within}
 use Rattle.words.specs.declared.Call.TheVariants.{Restart}
 use Rattle.words.specs.declared.Inputs.{Inputs}
-use Rattle.words.specs.declared.Outcome.TheVariants.{Chose, Refused}
+use Rattle.words.specs.declared.Success.TheVariants.{Chose}
 use Rattle.words.specs.declared.Phase.{Phase}
 use Rattle.words.specs.declared.Phase.TheVariants.{Waiting}
 use Rattle.words.specs.declared.Refusal.{Refusal}
@@ -35,21 +35,21 @@ module _ {M : Type 0} {make : Make M} (laws : Laws make) (accepts : List ℕ →
       let fits = restored in
       told_end laws 0 (512 * (1 + 2 * l.k)) (mends_within l (make.state w).bytes restored) (omega arith) h
 
-  by_made : {q : Phase} {g : List ℕ} {o : _} → Made {E = framed accepts make} (mends l (make.state w).bytes) (restart_job l) (with p f w) (with q g n) o (record { layout = l; phase = choice accepts i (application l (make.state n).bytes); packet = [] }) (Chose (choice accepts i (application l (make.state n).bytes)))
+  by_made : {q : Phase} {g : List ℕ} {o : _} → Made {E = framed accepts make} (mends l (make.state w).bytes) (restart_job l) (with p f w) (with q g n) o (record { layout = l; phase = choice accepts i (application l (make.state n).bytes); packet = [] }) (Ok (Chose (choice accepts i (application l (make.state n).bytes))))
       → Called (Restart i) (with p f m) (with q g n) o
   by_made made = did (eq-eqb _ _ fit) refl (w, back, made)
 
   -- all changes have finished, and a phase was chosen
   pub finishes : Mended make l w n (Ok tt) → (q : Phase) (g : List ℕ)
       → ((area : List ℕ) → Reads (make.state n) (application_place l) (application_size l) area → q ≡ choice accepts i area) → g ≡ []
-      → Called (Restart i) (with p f m) (with q g n) (Chose q)
+      → Called (Restart i) (with p f m) (with q g n) (Ok (Chose q))
   finishes h q g chosen none = by (end h)
     where
-      by : ToldEnd make (mends l (make.state w).bytes) (restart_job l) (tt {0}) w n (Ok (tt {0})) → Called (Restart i) (with p f m) (with q g n) (Chose q)
+      by : ToldEnd make (mends l (make.state w).bytes) (restart_job l) (tt {0}) w n (Ok (tt {0})) → Called (Restart i) (with p f m) (with q g n) (Ok (Chose q))
       by (all ran told) =
           let fits : size (make.state n) ≡ whole_size l = ran_size laws ran ∙ restored in
           let is = chosen (application l (make.state n).bytes) (reads_part (make.state n) (application_place l) (application_size l) (omega arith)) in
-          by_made (whole ran (ap₂ (λ a b. record { layout = l; phase = a; packet = b }) is none) (ap Chose is))
+          by_made (whole ran (ap₂ (λ a b. record { layout = l; phase = a; packet = b }) is none) (ap (λ p. Ok (Ok (Chose p))) is))
       by (lost place ran told) = ok_not_err told
 
   pub stays_on : Mended make l w n (Ok tt) → (make.state n).on ≡ true
@@ -61,14 +61,14 @@ module _ {M : Type 0} {make : Make M} (laws : Laws make) (accepts : List ℕ →
 
   -- the supply was lost
   pub loses : (e : Refusal) → Mended make l w n (Err e) → (g : List ℕ) → g ≡ []
-      → Called (Restart i) (with p f m) (with Waiting g n) (Refused e) × SupplyTold (Err e) (make.state n)
+      → Called (Restart i) (with p f m) (with Waiting g n) (Err e) × SupplyTold (Err e) (make.state n)
   loses e h g none = by (end h)
     where
       by : ToldEnd make (mends l (make.state w).bytes) (restart_job l) (tt {0}) w n (Err e)
-          → Called (Restart i) (with p f m) (with Waiting g n) (Refused e) × SupplyTold (Err e) (make.state n)
+          → Called (Restart i) (with p f m) (with Waiting g n) (Err e) × SupplyTold (Err e) (make.state n)
       by (all ran told) = ok_not_err (sym told)
       by (lost place ran told) =
           let is = err_same told in (
-            by_made (cut place ran (ap (λ b. record { layout = l; phase = Waiting; packet = b }) none) (ap Refused is)),
+            by_made (cut place ran (ap (λ b. record { layout = l; phase = Waiting; packet = b }) none) (ap Err is)),
             subst (λ x. SupplyTold (Err x) (make.state n)) (sym is) (ran_off laws place ran refl),
           )

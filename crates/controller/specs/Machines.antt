@@ -9,13 +9,12 @@ use Rattle.rule.specs.Bus.{fresh}
 use Rattle.rule.specs.Calls.{Machine, Called}
 use Rattle.rule.specs.Frames.{Receiver, frames, framed}
 use Rattle.words.specs.declared.Call.{Call}
-use Rattle.words.specs.declared.Outcome.{Outcome}
-use Rattle.words.specs.declared.Outcome.TheVariants.{Said, Chose, Refused}
+use Rattle.words.specs.Outcomes.{Outcome, Reply}
+use Rattle.words.specs.declared.Success.TheVariants.{Said, Chose}
 use Rattle.words.specs.declared.Phase.{Phase}
 use Rattle.words.specs.declared.Phase.TheVariants.{Waiting}
 use Rattle.words.specs.declared.Refusal.{Refusal}
 use Rattle.words.specs.declared.Refusal.TheVariants.{BadLayout, SupplyLost, PastEnd, WrongSize, MarkNotErased, NotListening, MalformedInput}
-use Rattle.words.specs.declared.Reply.{Reply}
 use Rattle.controller.specs.declared.Controller.{Controller}
 
 -- what a controller keeps: its layout, its phase, and the bytes since the last answer
@@ -32,13 +31,13 @@ CalledOn accepts make call c m d n = Called call (machine accepts make c m) (mac
 
 -- how receiving a byte came out
 abbrev pub said : Result Reply Refusal → Outcome Reply
-said (Ok reply) = Said reply
-said (Err refusal) = Refused refusal
+said (Ok reply) = Ok (Said reply)
+said (Err refusal) = Err refusal
 
 -- how a restart came out
 abbrev pub chose : Result Phase Refusal → Outcome Reply
-chose (Ok phase) = Chose phase
-chose (Err refusal) = Refused refusal
+chose (Ok phase) = Ok (Chose phase)
+chose (Err refusal) = Err refusal
 
 -- what commissioning answers, in the order of its tests
 abbrev pub tested : Layout → State → Result Unit Refusal

@@ -9,7 +9,7 @@ use Rattle.rule.specs.Rule.{Step, History, Commissioned}
 use Rattle.words.specs.declared.Call.{Call}
 use Rattle.words.specs.declared.Phase.TheVariants.{Waiting}
 use Rattle.words.specs.declared.Refusal.{Refusal}
-use Rattle.words.specs.declared.Reply.{Reply}
+use Rattle.words.specs.Outcomes.{Reply}
 use Rattle.words.specs.declared.Turn.{Turn}
 use Rattle.controller.specs.Machines.{machine, tested}
 use Rattle.controller.specs.declared.Controller.{Controller}

@@ -13,7 +13,7 @@ use Rattle.rule.specs.Command.{Effect, allowed, erase_segment, write_block, jump
 use Rattle.rule.specs.Frames.{Receiver, is_listening, answers, hear, JumpFrame, frames}
 use Rattle.words.specs.declared.Phase.{Phase}
 use Rattle.words.specs.declared.Phase.TheVariants.{Waiting, Listening, Running}
-use Rattle.words.specs.declared.Reply.{Reply}
+use Rattle.words.specs.Outcomes.{Reply}
 
 waiting_not : Waiting ≡ Listening → ⊥
 waiting_not e = let z : ◌≡◌ {A = ℕ} 0 1 = cc in omega arith

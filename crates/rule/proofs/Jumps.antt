@@ -1,5 +1,5 @@
 -- On frames, jumps are told by their answer.
-use Rattle.std.proofs.Common.{◌≡◌, ℕ, Bool, true, false, List, refl, ap, ◌∙◌, subst, arith}
+use Rattle.std.proofs.Common.{◌≡◌, ℕ, Bool, true, false, List, refl, ap, ◌∙◌, subst, arith, Some, Ok}
 use Rattle.memory.specs.Make.{Make}
 use Rattle.image.specs.Startable.{startable}
 use Rattle.rule.specs.Calls.{downloaded, whole, cut, Called, mismatch, unheard, did}
@@ -8,8 +8,7 @@ use Rattle.rule.specs.Command.{jump}
 use Rattle.rule.specs.Frames.{is_listening, JumpFrame, JumpAnswered, JumpsTold}
 use Rattle.rule.proofs.FramesLaw.{jump_plan}
 use Rattle.words.specs.declared.Call.TheVariants.{Tell}
-use Rattle.words.specs.declared.Outcome.TheVariants as Outcome
-use Rattle.words.specs.declared.Reply.TheVariants.{Answered}
+use Rattle.words.specs.declared.Success.TheVariants as Success
 use Rattle.rule.proofs.Steps.{lost_not_said}
 
 -- On frames an accepted jump is a jump frame that is answered 0x00.
@@ -25,10 +24,10 @@ jumps_told accepts make e = (there, back)
 
     -- what a jump frame answers, once it was carried out, and that it was heard
     says : {b : ℕ} → JumpFrame e.before.control b → Said e.outcome → Called (Tell b) e.before e.after e.outcome
-        → (is_listening e.before.control.phase ≡ true) × (e.outcome ≡ Outcome.Said (Answered (jump can).answer))
+        → (is_listening e.before.control.phase ≡ true) × (e.outcome ≡ Ok (Success.Said (Some (jump can).answer)))
     says j ok (mismatch off same out) = let z : ◌≡◌ {A = ℕ} 0 1 = cc (out, ok.1) in let never : ⊥ = omega arith in absurd never
     says j ok (unheard fit deaf same out) = let z : ◌≡◌ {A = ℕ} 0 1 = cc (out, ok.1) in let never : ⊥ = omega arith in absurd never
-    says {b} j ok (did fit on (whole ran is out)) = (on, out ∙ ap (λ p. Outcome.Said p.says) (jump_plan e.before.control can b j))
+    says {b} j ok (did fit on (whole ran is out)) = (on, out ∙ ap (λ p. Ok (Success.Said p.says)) (jump_plan e.before.control can b j))
     says j ok (did fit on (cut p ran is out)) = absurd (lost_not_said e.outcome (p, _, out) ok)
 
     there : Accepted e → JumpAnswered e
@@ -36,7 +35,7 @@ jumps_told accepts make e = (there, back)
       byte = j.event;
       call = j.call;
       frame = j.command;
-      answer = (says j.command ok (as_event j.call)).1 ∙ ap (λ v. Outcome.Said (Answered (jump v).answer)) j.can;
+      answer = (says j.command ok (as_event j.call)).1 ∙ ap (λ v. Ok (Success.Said (Some (jump v).answer))) j.can;
     }
 
     back : JumpAnswered e → Accepted e
@@ -45,12 +44,12 @@ jumps_told accepts make e = (there, back)
         ok : Said e.outcome
         ok = (_, a.answer)
 
-        told : (is_listening e.before.control.phase ≡ true) × (e.outcome ≡ Outcome.Said (Answered (jump can).answer))
+        told : (is_listening e.before.control.phase ≡ true) × (e.outcome ≡ Ok (Success.Said (Some (jump can).answer)))
         told = says a.frame ok (as_event a.call)
 
         startably : (v : Bool) → can ≡ v → can ≡ true
         startably true is = is
         startably false is =
-            let out = told.1 ∙ ap (λ v. Outcome.Said (Answered (jump v).answer)) is in
+            let out = told.1 ∙ ap (λ v. Ok (Success.Said (Some (jump v).answer))) is in
             let z : ◌≡◌ {A = ℕ} 0 1 = cc (a.answer, out) in
             let never : ⊥ = omega arith in absurd never

@@ -14,7 +14,8 @@ use Rattle.rule.specs.Rule.{Updated, Kept, Safe, Rule}
 use Rattle.words.specs.declared.Call.{Call}
 use Rattle.words.specs.declared.Call.TheVariants.{Tell, Restart}
 use Rattle.words.specs.declared.Inputs.{Inputs}
-use Rattle.words.specs.declared.Outcome.{Outcome}
+use Rattle.words.specs.declared.Success.{Success}
+use Rattle.words.specs.Outcomes.{Outcome}
 use Rattle.words.specs.declared.Phase.{Phase}
 use Rattle.words.specs.declared.Phase.TheVariants.{Listening, Running}
 use Rattle.rule.proofs.Mend.{Pending, mended, mended_mark, blank_mended}
@@ -22,7 +23,7 @@ use Rattle.rule.proofs.Steps.{waiting_not, lost_not_said, lost_not_chosen, Sound
 use Rattle.rule.proofs.Steps.{Jumped, Heard, quiet, filled, jumped, Rebooted, Kind, told, rebooted}
 
 -- a choice is one of a phase
-phase_is : {R : Type 0} {p q : Phase} → ◌≡◌ {A = Outcome R} (Outcome.Chose p) (Outcome.Chose q) → p ≡ q
+phase_is : {R : Type 0} {p q : Phase} → ◌≡◌ {A = Outcome R} (Ok (Success.Chose p)) (Ok (Success.Chose q)) → p ≡ q
 phase_is e = cc
 
 event_not_restart : {Event : Type 0} {c : Call Event} {x : Event} → c ≡ Tell x → Restarts c → ⊥
@@ -60,7 +61,7 @@ module _ {M : Type 0} {E : Engine M} where
   record Done (e : Step E) : Type 0 where
     pub reboot : Rebooted e
     pub is : reboot.result ≡ Ok tt
-    pub choice : e.outcome ≡ Outcome.Chose (choice E.accepts reboot.inputs (applied e.after))
+    pub choice : e.outcome ≡ Ok (Success.Chose (choice E.accepts reboot.inputs (applied e.after)))
 
   -- no mark, and the old application area
   record Calm (old : List ℕ) (m : Machine E) : Type 0 where
@@ -115,7 +116,7 @@ module _ {M : Type 0} {E : Engine M} (law : Law E.bus) (laws : Laws E.make) wher
   reached : {n : Machine E} (r : Reached n) → Sound n × (booted n ≡ booted r.start)
   reached {n} r = sound_run r.start n r.calls (new_sound r.start r.commissioned) r.history
 
-  started : (e : Step E) → Sound e.before → e.outcome ≡ Outcome.Chose Running
+  started : (e : Step E) → Sound e.before → e.outcome ≡ Ok (Success.Chose Running)
       → startable E.accepts (applied e.after) ≡ true
   started e s out =
       let d = done e s (_, out) in
@@ -247,7 +248,7 @@ module _ {M : Type 0} {E : Engine M} (law : Law E.bus) (laws : Laws E.make) wher
   record Whole (u : Update E) : Type 0 where
     pub updated : Updated u
     pub choice : (i : Inputs) → u.restart.call ≡ Restart i
-        → u.restart.outcome ≡ Outcome.Chose (choice E.accepts i (image u.jump))
+        → u.restart.outcome ≡ Ok (Success.Chose (choice E.accepts i (image u.jump)))
     pub boots : booted u.restart.after ≡ booted u.jump.after
     pub image : downloaded u.jump.after ≡ image u.jump
 
@@ -271,7 +272,7 @@ module _ {M : Type 0} {E : Engine M} (law : Law E.bus) (laws : Laws E.make) wher
         updated = record { finished = first.1; image = app; mark = reboot_mark u.restart end.reboot end.is };
         choice = λ i is.
             let same = given end.reboot.call is in
-            end.choice ∙ (λ k. Outcome.Chose (choice E.accepts (same k) (app k)));
+            end.choice ∙ (λ k. Ok (Success.Chose (choice E.accepts (same k) (app k))));
         boots = (step law laws u.restart last.sound).boots
             ∙ (sound_run e.after u.restart.before u.between held.sound u.history).1;
         image = d.image;
@@ -311,7 +312,7 @@ rule E F law_e laws_e law_f laws_f = record {
         boots = x.boots ∙ (λ i. boot (twins.layouts i) (twins.bytes i)) ∙ sym y.boots;
         choice = λ i a b p is.
             let same = phase_is (sym (x.choice i a) ∙ is) in
-            y.choice i b ∙ (λ k. Outcome.Chose (choice (sym one k) i (sym images k))) ∙ ap Outcome.Chose same;
+            y.choice i b ∙ (λ k. Ok (Success.Chose (choice (sym one k) i (sym images k)))) ∙ ap (λ p. Ok (Success.Chose p)) same;
       };
   first = safe law_e laws_e;
   second = safe law_f laws_f;

@@ -1,5 +1,5 @@
 -- What one call leaves, in the words of the rule.
-use Rattle.std.proofs.Common.{◌≡◌, ℕ, ◌+◌, ◌*◌, ◌≤◌, Bool, true, ◌⊎◌, List, [], ◌∷◌, length, Ok, sym, refl, ap, ◌∙◌, subst, inl, inr, ⊎_elim, arith}
+use Rattle.std.proofs.Common.{◌≡◌, ℕ, ◌+◌, ◌*◌, ◌≤◌, Bool, true, ◌⊎◌, List, [], ◌∷◌, length, Ok, sym, refl, ap, ◌∙◌, subst, inl, inr, ⊎_elim, arith, Err}
 use Rattle.std.proofs.lemmas.Bool.{eq-eqb, false≢true}
 use Rattle.memory.specs.Change.{Change, write, End}
 use Rattle.memory.specs.Make.{Laws}
@@ -16,7 +16,8 @@ use Rattle.words.specs.declared.Call.{Call}
 use Rattle.words.specs.declared.Call.TheVariants.{Tell, Restart}
 use Rattle.words.specs.declared.Inputs.{Inputs}
 use Rattle.words.specs.declared.Job.{Job}
-use Rattle.words.specs.declared.Outcome.{Outcome}
+use Rattle.words.specs.declared.Success.{Success}
+use Rattle.words.specs.Outcomes.{Outcome}
 use Rattle.words.specs.declared.Phase.TheVariants.{Waiting, Listening}
 use Rattle.words.specs.declared.Refusal.TheVariants.{NotListening}
 use Rattle.rule.proofs.Areas.{ran_part}
@@ -79,7 +80,7 @@ module _ {M : Type 0} {E : Engine M} where
     pub same : (E.make.state w).bytes ≡ bytes e.before
     pub result : End
     pub ran : Ran E.make (mends (layout e.before) (E.make.state w).bytes) w e.after.memory result
-    pub end : ((result ≡ Ok tt) × (e.outcome ≡ Outcome.Chose (choice E.accepts inputs (applied e.after))))
+    pub end : ((result ≡ Ok tt) × (e.outcome ≡ Ok (Success.Chose (choice E.accepts inputs (applied e.after)))))
         ⊎ ((result ≡ Ok tt → ⊥) × (e.after.control.phase ≡ Waiting) × Lost e.outcome)
 
   -- an event of the bus, which never chooses, or a restart
@@ -119,7 +120,7 @@ module _ {M : Type 0} {E : Engine M} (law : Law E.bus) (laws : Laws E.make)
     abbrev p : Plan E.bus.Packet E.bus.Reply
     p = E.bus.plan c can x
 
-    module _ (d : Ended p.changes e.before e.after e.outcome p.next (Outcome.Said p.says)) where
+    module _ (d : Ended p.changes e.before e.after e.outcome p.next (Ok (Success.Said p.says))) where
       lays : layout e.after ≡ l
       lays =
           ⊎_elim (λ a. ap (λ v. v.layout) a.1 ∙ law.layout c can x)
@@ -189,7 +190,7 @@ module _ {M : Type 0} {E : Engine M} (law : Law E.bus) (laws : Laws E.make)
       let lays : layout e.after ≡ l =
       ⊎_elim (λ a. ap (λ v. v.layout) a.1) (λ b. ap (λ v. v.layout) b.1) d.end in
       let len = ap (λ xs. length xs) back.bytes in
-      let pick : Layout → Outcome E.bus.Reply = λ v. Outcome.Chose (choice E.accepts i (application v (bytes e.after))) in
+      let pick : Layout → Outcome E.bus.Reply = λ v. Ok (Success.Chose (choice E.accepts i (application v (bytes e.after)))) in
       record {
         layouts = lays;
         sizes = ran_size laws d.ran ∙ len;
@@ -208,7 +209,7 @@ module _ {M : Type 0} {E : Engine M} (law : Law E.bus) (laws : Laws E.make)
       }
 
   -- an event that is not heard
-  still : (x : E.bus.Event) → e.call ≡ Tell x → e.after ≡ e.before → e.outcome ≡ Outcome.Refused NotListening → Went e
+  still : (x : E.bus.Event) → e.call ≡ Tell x → e.after ≡ e.before → e.outcome ≡ Err NotListening → Went e
   still x is same out = record {
     layouts = ap layout same;
     sizes = ap (λ v. length (bytes v)) same;

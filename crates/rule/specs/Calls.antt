@@ -1,6 +1,5 @@
 -- One call of a controller: what it may leave, and how it may come out.
-use Rattle.std.specs.Prelude.{◌≡◌, ℕ, Bool, true, false, List, length, ◌==◌}
-use Rattle.std.specs.declared.result.Result.TheVariants as Result
+use Rattle.std.specs.Prelude.{◌≡◌, ℕ, Bool, true, false, List, length, ◌==◌, Ok, Err}
 use Rattle.memory.specs.Change.{Change}
 use Rattle.memory.specs.Make.{Make}
 use Rattle.memory.specs.Ran.{Ran}
@@ -15,8 +14,8 @@ use Rattle.words.specs.declared.Call.TheVariants.{Tell, Restart}
 use Rattle.words.specs.declared.Inputs.{Inputs}
 use Rattle.words.specs.declared.Job.{Job}
 use Rattle.words.specs.declared.Job.TheVariants.{HostCommand}
-use Rattle.words.specs.declared.Outcome.{Outcome}
-use Rattle.words.specs.declared.Outcome.TheVariants.{Said, Chose, Refused}
+use Rattle.words.specs.Outcomes.{Outcome}
+use Rattle.words.specs.declared.Success.TheVariants.{Said, Chose}
 use Rattle.words.specs.declared.Phase.TheVariants.{Waiting}
 use Rattle.words.specs.declared.Refusal.TheVariants.{SupplyLost, WrongSize, NotListening}
 
@@ -63,22 +62,22 @@ module _ {M : Type 0} {E : Engine M} where
   -- how a list of changes may come out: all have finished, or the supply was lost at a place and the controller waits
   pub data Made (cs : List Change) (job : ℕ → Job) (m n : Machine E) (o : Outcome E.bus.Reply)
       (next : Control E.bus.Packet) (says : Outcome E.bus.Reply) : Type 0 where
-    whole : Ran E.make cs m.memory n.memory (Result.Ok tt)
+    whole : Ran E.make cs m.memory n.memory (Ok tt)
         → n.control ≡ next → o ≡ says → Made cs job m n o next says
-    cut : (place : ℕ) → Ran E.make cs m.memory n.memory (Result.Err (Fault.SupplyLost place))
-        → n.control ≡ fresh E.bus (layout m) Waiting → o ≡ Refused (SupplyLost place (job place)) → Made cs job m n o next says
+    cut : (place : ℕ) → Ran E.make cs m.memory n.memory (Err (Fault.SupplyLost place))
+        → n.control ≡ fresh E.bus (layout m) Waiting → o ≡ Err (SupplyLost place (job place)) → Made cs job m n o next says
 
   -- an event, by its plan
   abbrev pub Told : E.bus.Event → Machine E → Machine E → Outcome E.bus.Reply → Type 0
   Told e m n o =
       let p = E.bus.plan m.control (startable E.accepts (downloaded m)) e in
-      Made p.changes (λ _. HostCommand) m n o p.next (Said p.says)
+      Made p.changes (λ _. HostCommand) m n o p.next (Ok (Said p.says))
 
   -- a restart, once the supply is back
   abbrev pub Restarted : Inputs → Machine E → Machine E → Outcome E.bus.Reply → Type 0
   Restarted i m n o =
       let phase = choice E.accepts i (application (layout m) (bytes n)) in
-      Made (mends (layout m) (bytes m)) (restart_job (layout m)) m n o (fresh E.bus (layout m) phase) (Chose phase)
+      Made (mends (layout m) (bytes m)) (restart_job (layout m)) m n o (fresh E.bus (layout m) phase) (Ok (Chose phase))
 
   -- a call is heard: a restart always, an event if the bus says so
   abbrev pub heard : Call E.bus.Event → Machine E → Bool
@@ -92,6 +91,6 @@ module _ {M : Type 0} {E : Engine M} where
 
   -- how a call may come out, in the order of the tests; a refused one leaves everything as it was
   pub data Called (call : Call E.bus.Event) (m n : Machine E) (o : Outcome E.bus.Reply) : Type 0 where
-    mismatch : fits m ≡ false → n ≡ m → o ≡ Refused WrongSize → Called call m n o
-    unheard : fits m ≡ true → heard call m ≡ false → n ≡ m → o ≡ Refused NotListening → Called call m n o
+    mismatch : fits m ≡ false → n ≡ m → o ≡ Err WrongSize → Called call m n o
+    unheard : fits m ≡ true → heard call m ≡ false → n ≡ m → o ≡ Err NotListening → Called call m n o
     did : fits m ≡ true → heard call m ≡ true → Did call m n o → Called call m n o

@@ -1,5 +1,5 @@
 -- The bus of frames: a byte at a time.
-use Rattle.std.specs.Prelude.{◌≡◌, ℕ, ◌/◌, ◌%◌, ◌<◌, ◌≤◌, Bool, true, false, ◌↔◌, List, [], ◌∷◌, ◌++◌, length, slice_index}
+use Rattle.std.specs.Prelude.{◌≡◌, ℕ, ◌/◌, ◌%◌, ◌<◌, ◌≤◌, Bool, true, false, ◌↔◌, List, [], ◌∷◌, ◌++◌, length, slice_index, Some, None, Ok}
 use Rattle.crc.specs.Sums.{ccitt}
 use Rattle.memory.specs.Make.{Make}
 use Rattle.rule.specs.Bus.{Control, Plan, Bus}
@@ -9,11 +9,10 @@ use Rattle.rule.specs.Frame.{Verdict, more, wrong, good, judge}
 use Rattle.rule.specs.Command.{Effect, obey, effect}
 use Rattle.words.specs.declared.Answer.TheVariants.{Done}
 use Rattle.words.specs.declared.Call.TheVariants.{Tell}
-use Rattle.words.specs.declared.Outcome.TheVariants as Outcome
+use Rattle.words.specs.declared.Success.TheVariants as Success
 use Rattle.words.specs.declared.Phase.{Phase}
 use Rattle.words.specs.declared.Phase.TheVariants.{Waiting, Listening, Running}
-use Rattle.words.specs.declared.Reply.{Reply}
-use Rattle.words.specs.declared.Reply.TheVariants.{NothingYet, Answered}
+use Rattle.words.specs.Outcomes.{Reply}
 
 -- a controller on frames: its packet is the list of bytes since the last answer
 abbrev pub Receiver : Type 0
@@ -29,7 +28,7 @@ abbrev pub answers : Receiver → Effect → Plan (List ℕ) Reply
 answers c e = record {
   changes = e.changes;
   next = record { layout = c.layout; phase = e.phase; packet = [] };
-  says = Answered e.answer;
+  says = Some e.answer;
 }
 
 -- a byte, by what the bytes since the last answer come to with it
@@ -37,7 +36,7 @@ abbrev pub hear : Receiver → Bool → List ℕ → Verdict → Plan (List ℕ)
 hear c can bytes more = record {
   changes = [];
   next = record { layout = c.layout; phase = c.phase; packet = bytes };
-  says = NothingYet;
+  says = None;
 }
 hear c can bytes (wrong a) = answers c (effect [] a)
 hear c can bytes (good payload) = answers c (obey c.layout can payload)
@@ -84,7 +83,7 @@ pub record JumpAnswered {M : Type 0} {accepts : List ℕ → Bool} {make : Make 
   pub byte : ℕ
   pub call : e.call ≡ Tell byte
   pub frame : JumpFrame e.before.control byte
-  pub answer : e.outcome ≡ Outcome.Said (Answered Done)
+  pub answer : e.outcome ≡ Ok (Success.Said (Some Done))
 
 -- on frames those are the accepted jumps
 abbrev pub JumpsTold : {M : Type 0} → (List ℕ → Bool) → Make M → Type 0

@@ -1,5 +1,5 @@
 -- The rule on cuts: what a controller runs after its supply has failed, over every list of calls.
-use Rattle.std.specs.Prelude.{◌≡◌, ℕ, true, ◌⊎◌, List, [], ◌∷◌}
+use Rattle.std.specs.Prelude.{◌≡◌, ℕ, true, ◌⊎◌, List, [], ◌∷◌, Ok, Err}
 use Rattle.image.specs.Startable.{startable}
 use Rattle.layout.specs.Areas.{mark}
 use Rattle.rule.specs.Bus.{fresh}
@@ -7,7 +7,8 @@ use Rattle.rule.specs.Calls.{Engine, Machine, layout, bytes, fits, downloaded, a
 use Rattle.words.specs.declared.Call.{Call}
 use Rattle.words.specs.declared.Inputs.{Inputs}
 use Rattle.words.specs.declared.Job.{Job}
-use Rattle.words.specs.declared.Outcome.{Outcome}
+use Rattle.words.specs.declared.Success.{Success}
+use Rattle.words.specs.Outcomes.{Outcome}
 use Rattle.words.specs.declared.Phase.{Phase}
 use Rattle.words.specs.declared.Phase.TheVariants.{Waiting, Running}
 use Rattle.words.specs.declared.Refusal.TheVariants.{SupplyLost}
@@ -24,15 +25,15 @@ Some P (x ∷ xs) = P x ⊎ Some P xs
 
 -- an event of the bus was carried out
 abbrev pub Said : {Reply : Type 0} → Outcome Reply → Type 0
-Said {Reply} o = (r : Reply) × (o ≡ Outcome.Said r)
+Said {Reply} o = (r : Reply) × (o ≡ Ok (Success.Said r))
 
 -- a restart was carried out
 abbrev pub Chose : {Reply : Type 0} → Outcome Reply → Type 0
-Chose o = (p : Phase) × (o ≡ Outcome.Chose p)
+Chose o = (p : Phase) × (o ≡ Ok (Success.Chose p))
 
 -- the supply was lost
 abbrev pub Lost : {Reply : Type 0} → Outcome Reply → Type 0
-Lost o = (place : ℕ) × (job : Job) × (o ≡ Outcome.Refused (SupplyLost place job))
+Lost o = (place : ℕ) × (job : Job) × (o ≡ Err (SupplyLost place job))
 
 -- the call is a restart
 abbrev pub Restarts : {Event : Type 0} → Call Event → Type 0
@@ -149,14 +150,14 @@ module _ {M N : Type 0} {E : Engine M} {F : Engine N} (u : Update E) (v : Update
     pub images : image u.jump ≡ image v.jump
     pub boots : booted u.restart.after ≡ booted v.restart.after
     pub choice : (i : Inputs) → u.restart.call ≡ Call.Restart i → v.restart.call ≡ Call.Restart i
-        → (p : Phase) → u.restart.outcome ≡ Outcome.Chose p → v.restart.outcome ≡ Outcome.Chose p
+        → (p : Phase) → u.restart.outcome ≡ Ok (Success.Chose p) → v.restart.outcome ≡ Ok (Success.Chose p)
 
 -- what holds of each controller alone
 pub record Safe {M : Type 0} (E : Engine M) : Type 0 where
   -- without an accepted jump the application area stands
   pub lulls : (u : Lull E) → Kept u
   -- an application area is started only if it is startable
-  pub started : (e : Step E) → Reached e.before → e.outcome ≡ Outcome.Chose Running
+  pub started : (e : Step E) → Reached e.before → e.outcome ≡ Ok (Success.Chose Running)
       → startable E.accepts (applied e.after) ≡ true
   -- no boot byte ever changes
   pub boots : (n : Machine E) (r : Reached n) → booted n ≡ booted r.start

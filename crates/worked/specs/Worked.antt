@@ -8,8 +8,7 @@ use Rattle.layout.specs.Areas.{address, download_place, application_place, boot_
 use Rattle.layout.specs.declared.divided.Layout.{Layout}
 use Rattle.words.specs.Numbers.{answer_byte}
 use Rattle.words.specs.declared.Phase.TheVariants.{Listening}
-use Rattle.words.specs.declared.Reply.{Reply}
-use Rattle.words.specs.declared.Reply.TheVariants.{NothingYet, Answered}
+use Rattle.words.specs.Outcomes.{Reply}
 use Rattle.rule.specs.Bus.{Plan}
 use Rattle.rule.specs.Frames.{frames}
 
