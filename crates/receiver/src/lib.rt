@@ -4,20 +4,10 @@
 ghost use Rattle.std.specs.Prelude.{◌<◌, ◌≤◌};
 ghost use Rattle.receiver.specs.Progress.{need_of, index_of};
 
-use words::Answer;
-
 mod receive;
 
-// What a byte did: nothing yet, an error to be answered, or a good frame with a payload of so many bytes.
-#[derive(Clone, Copy)]
-pub enum Event {
-    Nothing,
-    Wrong(Answer),
-    Frame(u8),
-}
-
 // Which byte of a frame comes next, and what is known of the frame.
-#[derive(Clone, Copy)]
+#[derive(Clone, Copy, Debug, PartialEq, Eq)]
 enum Receiving {
     Header,
     Length,

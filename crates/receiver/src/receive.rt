@@ -4,7 +4,7 @@ ghost use Rattle.rule.specs.Frame.{judge};
 ghost use Rattle.receiver.specs.Packet.{packet};
 ghost use Rattle.receiver.specs.Events.{Counted, told, kept};
 
-use crate::{Event, Receiver, Receiving};
+use crate::{Receiver, Receiving};
 use crc::CrcCcitt;
 use words::Answer;
 
@@ -27,8 +27,9 @@ impl Receiver {
         &self.buffer[..usize::from(n).min(19)]
     }
 
-    // The next byte from the host.
-    pub fn byte(&mut self, byte: u8) -> Event
+    // The next byte from the host: the length of its payload where it completes a good frame, or the answer to an error. A payload that
+    // is lent out here would hide from a contract what becomes of the receiver, so `payload` lends it.
+    pub fn byte(&mut self, byte: u8) -> Result<Option<u8>, Answer>
         ensures count { Counted result }
         ensures event { told result self.new.buffer ≡ judge (packet self.old ++ byte ∷ []) }
         ensures keeps { packet self.new ≡ kept (told result self.new.buffer) (packet self.old ++ byte ∷ []) }
@@ -36,20 +37,20 @@ impl Receiver {
         match (self.state, byte) {
             (Receiving::Header, 0x80) => {
                 self.state = Receiving::Length;
-                Event::Nothing
+                Ok(None)
             }
-            (Receiving::Header, _) => Event::Wrong(Answer::HeaderError),
+            (Receiving::Header, _) => Err(Answer::HeaderError),
             (Receiving::Length, 0) => {
                 self.state = Receiving::Header;
-                Event::Wrong(Answer::PacketZeroError)
+                Err(Answer::PacketZeroError)
             }
             (Receiving::Length, 1..=19) => {
                 self.state = Receiving::Payload { need: byte, got: 0 };
-                Event::Nothing
+                Ok(None)
             }
             (Receiving::Length, _) => {
                 self.state = Receiving::Header;
-                Event::Wrong(Answer::PacketSizeError)
+                Err(Answer::PacketSizeError)
             }
             (Receiving::Payload { need, got }, _) => {
                 self.buffer[usize::from(got)] = byte;
@@ -58,19 +59,19 @@ impl Receiver {
                 } else {
                     Receiving::SumLow { need }
                 };
-                Event::Nothing
+                Ok(None)
             }
             (Receiving::SumLow { need }, low) => {
                 self.state = Receiving::SumHigh { need, low };
-                Event::Nothing
+                Ok(None)
             }
             (Receiving::SumHigh { need, low }, high) => {
                 let sum = crc::sum::<CrcCcitt>(&self.buffer[..usize::from(need)]);
                 self.state = Receiving::Header;
                 if u16::from_le_bytes([low, high]) == sum {
-                    Event::Frame(need)
+                    Ok(Some(need))
                 } else {
-                    Event::Wrong(Answer::ChecksumError)
+                    Err(Answer::ChecksumError)
                 }
             }
         }

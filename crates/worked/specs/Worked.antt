@@ -22,8 +22,8 @@ plan packet byte = frames.plan (record { layout = example; phase = Listening; pa
 
 -- the byte that answers it, if any
 abbrev pub answered : Reply → Option ℕ
-answered NothingYet = None
-answered (Answered a) = Some (answer_byte a)
+answered None = None
+answered (Some a) = Some (answer_byte a)
 
 pub record Worked : Type 0 where
   -- sums of the published check text, and of the commands ERASE_APP and JUMP2APP
