@@ -1,6 +1,6 @@
 use Rattle.std.proofs.Common.{◌<◌, length, arith}
 use Rattle.image.specs.Check.{accepted}
-use Rattle.controller.proofs.Plays.{none_yet, one_more, all_played}
+use Rattle.controller.proofs.Plays.{one_more}
 use Rattle.controller.proofs.play.Goals as goal
 
 pub loop-turn-preserved : goal.loop-turn-preserved
