@@ -7,7 +7,6 @@ use Rattle.memory.specs.Make.{Make}
 use Rattle.memory.specs.Ran.{Ran}
 use Rattle.memory.specs.declared.Fault.{Fault}
 use Rattle.memory.proofs.Effects.{ran_as}
-use Rattle.area.specs.Reads.{Reads}
 use Rattle.layout.specs.Areas.{address, application_place, application_size}
 use Rattle.layout.specs.declared.divided.Layout.{Layout}
 use Rattle.rule.specs.Command.{Effect, effect, erase_segment, write_block}
@@ -22,10 +21,6 @@ module _ {M : Type 0} {make : Make M} {e : Effect} (f : Effect) (same : f ≡ e)
 
   pub carried_lost : {x : Fault} → Ran make e.changes m n (Err x) → Carried make f m n (Err x)
   carried_lost ran = ran_as (ap (λ v. v.changes) (sym same)) ran
-
--- the same area, from an equal place up and with an equal length
-pub reads_as : {s : State} {p q a b : ℕ} {area : List ℕ} → p ≡ q → a ≡ b → Reads s q b area → Reads s p a area
-reads_as {s} {p} {q} {a} {b} {area} e f h = subst (λ x. Reads s x a area) (sym e) (subst (λ x. Reads s q x area) (sym f) h)
 
 module _ (l : Layout) (from first : ℕ) (is : first ≡ address l (application_place l)) where
   abbrev base : ℕ

@@ -19,7 +19,7 @@ returns-in_ok-erase g c =
     let l = c.args.layout.now in
     let e = erase_fine l c.from-from.result c.first_address-first.result c.first_address-first.ensures
     c.if-first-from.true (omega (arith, c.if-from-first.true, c.application_size.ensures)) c.if-from-first-eq0.true in
-    carried_done _ (ap (erase_segment l) (sym c.from-from.ensures) ∙ e) (more c.in_ok-erase.ensures (none refl refl)) c.answered.ensures
+    carried_done _ (ap (erase_segment l) (sym c.from-from.ensures) ∙ e) (more c.in_ok-erase.ensures (none refl refl)) c.new.ensures
 
 pub returns-else-first-from : goal.returns-else-first-from
 returns-else-first-from g c =
@@ -30,4 +30,4 @@ returns-else-first-from g c =
       | else-first-from-via-then-first-from+else-from-first w ↦ omega (arith, w.if-from-first.false, w.application_size.ensures)
       | else-first-from-via-else-first-from w ↦ omega (arith, w.if-first-from.false)
     ]) in
-    carried_done _ (ap (erase_segment l) (sym c.from-from.ensures) ∙ e) (none refl refl) c.answered-else-first-from.ensures
+    carried_done _ (ap (erase_segment l) (sym c.from-from.ensures) ∙ e) (none refl refl) c.new-else-first-from.ensures

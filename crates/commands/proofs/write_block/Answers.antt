@@ -13,4 +13,4 @@ returns-else-first-from g c =
       | else-first-from-via-then-first-from+else-not-is_empty w ↦ omega (arith, eqb-true _ _ (sym w.if-not-is_empty.ensures))
       | else-first-from-via-else-first-from w ↦ omega (arith, w.if-first-from.false)
     ]) in
-    carried_done _ e (none refl refl) c.answered-else-first-from.ensures
+    carried_done _ e (none refl refl) c.new-else-first-from.ensures
