@@ -1,7 +1,6 @@
 -- Effects carried out, by what the code tests.
-use Rattle.std.proofs.Common.{◌≡◌, ℕ, ◌+◌, ◌-◌, ◌/◌, ◌%◌, ◌<◌, ◌≤◌, ◌&&◌, eqb, ltb, leb, List, [], ◌∷◌, length, Ok, Err, sym, refl, ap, ◌∙◌, subst, arith}
+use Rattle.std.proofs.Common.{◌≡◌, ℕ, ◌+◌, ◌-◌, ◌/◌, ◌%◌, ◌<◌, ◌≤◌, ◌&&◌, eqb, ltb, leb, List, [], ◌∷◌, length, Ok, Err, sym, refl, ap, ◌∙◌, arith}
 use Rattle.std.proofs.lemmas.Bool.{cond-true, cond_both, le-leb, lt-ltb, eq-eqb, and_from, and_parts, leb-true, ltb-true, eqb-true}
-use Rattle.memory.specs.State.{State}
 use Rattle.memory.specs.Change.{erase}
 use Rattle.memory.specs.Make.{Make}
 use Rattle.memory.specs.Ran.{Ran}
