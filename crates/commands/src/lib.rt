@@ -1,9 +1,9 @@
 // The commands of the host, and what each does to the memory.
 #![tactic(auto)]
 
-ghost use Rattle.std.specs.Prelude.{◌≡◌, Bool};
+ghost use Rattle.std.specs.Prelude.{◌≡◌, ◌+◌, ◌<◌, Bool, MatchOption};
 ghost use Rattle.image.specs.Check.{accepted};
-ghost use Rattle.layout.specs.Areas.{address, application_place};
+ghost use Rattle.layout.specs.Areas.{address as the_address, application_place};
 ghost use Rattle.layout.specs.declared.divided.Layout.{Layout as Areas};
 ghost use Rattle.memory.specs.Ran.{erases};
 ghost use Rattle.rule.specs.Command.{effect, erase_segment, write_block, jump, obey as the_effect};
@@ -64,11 +64,12 @@ pub fn parse(payload: &[u8]) -> Command<'_>
     }
 }
 
-// The first address that the host may name.
-fn first_address(layout: &Layout) -> usize
-    ensures { result ≡ address layout.now (application_place layout.now) }
+// How far an address lies above the first one that the host may name.
+fn offset(layout: &Layout, address: u16) -> Option<usize>
+    ensures { let first = the_address layout.now (application_place layout.now) in MatchOption result (address < first) (λ offset. address ≡ first + offset) }
 {
-    usize::from(layout.application_address())
+    let first = usize::from(layout.application_address());
+    usize::from(address).checked_sub(first)
 }
 
 // The address has to start a segment of the application area; the matching download segment is erased.
@@ -79,13 +80,12 @@ fn erase_segment<M: Memory>(
 ) -> Result<Response, Fault>
     ensures { Carried M.Memory.make (erase_segment layout.now address) memory.old memory.new result }
 {
-    let first = first_address(layout);
-    let from = usize::from(address);
-    if first <= from && from - first < layout.application_size() && (from - first) % 512 == 0 {
-        memory.erase(1 + (from - first) / 512)?;
-        Ok(Response::new(Answer::Done, Phase::Listening))
-    } else {
-        Ok(Response::new(Answer::InvalidParams, Phase::Listening))
+    match offset(layout, address) {
+        Some(offset) if offset < layout.application_size() && offset % 512 == 0 => {
+            memory.erase(1 + offset / 512)?;
+            Ok(Response::new(Answer::Done, Phase::Listening))
+        }
+        _ => Ok(Response::new(Answer::InvalidParams, Phase::Listening)),
     }
 }
 
@@ -98,14 +98,12 @@ fn write_block<M: Memory>(
 ) -> Result<Response, Fault>
     ensures { Carried M.Memory.make (write_block layout.now address block.now) memory.old memory.new result }
 {
-    let first = first_address(layout);
-    let end = first + layout.application_size();
-    let from = usize::from(address);
-    if first <= from && !block.is_empty() && from + block.len() <= end {
-        write_all(memory, layout.download_place() + (from - first), block)?;
-        Ok(Response::new(Answer::Done, Phase::Listening))
-    } else {
-        Ok(Response::new(Answer::InvalidParams, Phase::Listening))
+    match offset(layout, address) {
+        Some(offset) if !block.is_empty() && offset + block.len() <= layout.application_size() => {
+            write_all(memory, layout.download_place() + offset, block)?;
+            Ok(Response::new(Answer::Done, Phase::Listening))
+        }
+        _ => Ok(Response::new(Answer::InvalidParams, Phase::Listening)),
     }
 }
 

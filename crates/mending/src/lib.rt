@@ -14,6 +14,8 @@ use rule::refusal;
 use std::array;
 use words::{Job, Refusal};
 
+// Memory and layout are passed side by side: each method of a struct of the two would have to promise as well that it still holds the same two.
+
 // Copies one segment over another by way of a buffer.
 fn copy_segment<M: Memory>(memory: &mut M, from: usize, to: usize) -> Result<(), Fault>
     requires within { 512 * from + 512 ≤ the_size (M.Memory.make.state memory.old) }
