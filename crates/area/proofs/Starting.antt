@@ -1,40 +1,53 @@
 -- Whether an area is startable, by what is read at its places.
-use Rattle.std.proofs.Common.{◌≡◌, ℕ, ◌+◌, ◌-◌, ◌^◌, ◌<◌, ◌≤◌, min, Bool, false, cond, not, ltb, List, length, get_or, Some, sym, ap, ◌∙◌, ap₂, ⊎_elim, arith}
-use Rattle.std.proofs.lemmas.Bool.{cases_lt, cond-false, le-ltb, eq-eqb, ne_eqb}
-use Rattle.std.proofs.lemmas.List.{get_or_default, get_or_past}
-use Rattle.memory.specs.State.{State, at, Lawful}
+use denote.Param.Members.{Mut}
+use Rattle.std.proofs.Common.{◌≡◌, ℕ, ◌+◌, ◌-◌, ◌<◌, ◌≤◌, Bool, false, cond, not, ltb, List, [], ◌∷◌, length, get_or, fold, Some, Option, refl, sym, subst, ap, ◌∙◌, ap₂, arith}
+use Rattle.std.specs.Fn.{Called}
+use Rattle.std.specs.Iterator.{FoldsItems}
+use Rattle.std.proofs.lemmas.Bool.{cond-false, le-ltb, eq-eqb, ne_eqb}
+use Rattle.std.proofs.lemmas.Fn.{fold_over}
+use Rattle.std.proofs.lemmas.Iterator.{YieldsList}
+use Rattle.std.proofs.lemmas.List.Sums.{fold-append}
+use Rattle.std.proofs.lemmas.List.FromFn.{length-map-range_with_len, get_or-map-range_with_len, fill_by_all}
+use Rattle.memory.specs.State.{State, at}
 use Rattle.image.specs.Sums.{word}
 use Rattle.image.specs.Startable.{entry, enters, startable}
-use Rattle.area.specs.Reads.{Reads}
+use Rattle.area.specs.Reads.{reads, Reads, OneArea}
 
--- a sum that stops at the largest number reads the same byte: both lie past the end
-pub read_at : (s : State) → Lawful s → (place i q read : ℕ) → q ≡ min (place + i) (2 ^ 64 - 1) → read ≡ at s q → read ≡ at s (place + i)
-read_at s law place i q read is e =
-    let few = law.few in
-    let whole = law.whole in
-    ⊎_elim
-    (λ low.
-    let same : q ≡ place + i = omega arith in
-    e ∙ ap (at s) same)
-    (λ high.
-    e ∙ get_or_past s.bytes q 0xFF (omega arith) ∙ sym (get_or_past s.bytes (place + i) 0xFF (omega arith)))
-    (cases_lt (place + i) (2 ^ 64))
+pub reads_length : (s : State) (place count : ℕ) → length (reads s place count) ≡ count
+reads_length s place count = length-map-range_with_len (λ i. at s (place + i)) 0 count
 
-module _ {s : State} {place count : ℕ} {area : List ℕ} (reads : Reads s place count area) where
-  pub read_byte : (i read : ℕ) → i < count → read ≡ at s (place + i) → read ≡ get_or area i 0
-  read_byte i read h e =
-      let n : length area ≡ count = reads.length in
-      e ∙ sym (reads.bytes i h) ∙ get_or_default area i 0xFF 0 (omega arith)
+pub reads_at : (s : State) (place count i d : ℕ) → i < count → get_or (reads s place count) i d ≡ at s (place + i)
+reads_at s place count i d h = get_or-map-range_with_len (λ j. at s (place + j)) 0 count i i d h (omega arith)
 
-  module _ (accepts : List ℕ → Bool) (long : 2 ≤ count) (low high : ℕ)
-      (is_low : low ≡ at s (place + (count - 2))) (is_high : high ≡ at s (place + (count - 1))) where
+pub one_area : OneArea
+one_area s place count area = (
+  λ r. fill_by_all (λ i. at s (place + i)) area count 0xFF r.length r.bytes,
+  λ e. subst (Reads s place count) (sym e) (record { length = reads_length s place count; bytes = λ i h. reads_at s place count i 0xFF h }),
+)
+
+-- `fold` over what an iterator yields, with a closure that computes h
+pub folds_as : {S A B F C : Type 0} {steps : S → Option A → S → Type 0} {v : A → B} {g : Mut F (C × (A × Unit {0})) C} {f : F} {s : S} {a r : C} {all : List B}
+    → FoldsItems steps g s f a r → YieldsList steps v s all → (h : C → B → C)
+    → ((y : C) (x : A) (b : C) (q : F) → Called g f (y, (x, tt)) b q → (b ≡ h y (v x)) × (q ≡ f)) → r ≡ fold h a all
+folds_as {steps = steps} {v = v} {g = g} {f = f} {s = s} {a = a} {r = r} {all = all} ran yields h calls =
+    fold_over steps v g (λ ys b. b ≡ fold h a ys) f
+    (λ ys y x b q e k.
+    let c = calls y x b q k in
+    (c.0 ∙ ap (λ z. h z (v x)) e ∙ sym (fold-append h a ys (v x ∷ [])), c.1))
+    s all a r yields.runs refl ran
+
+module _ (s : State) (place count : ℕ) (accepts : List ℕ → Bool) where
+  abbrev area : List ℕ
+  area = reads s place count
+
+  module _ (long : 2 ≤ count) (low high : ℕ) (is_low : low ≡ at s (place + (count - 2))) (is_high : high ≡ at s (place + (count - 1))) where
     entry_is : entry area ≡ Some (word low high)
     entry_is =
-        let n : length area ≡ count = reads.length in
+        let n : length area ≡ count = reads_length s place count in
         cond-false (ltb (length area) 2) _ _ (le-ltb (length area) 2 (omega arith))
         ∙ ap₂ (λ a b. Some (word a b))
-        (ap (λ k. get_or area (k - 2) 0) n ∙ sym (read_byte (count - 2) low (omega arith) is_low))
-        (ap (λ k. get_or area (k - 1) 0) n ∙ sym (read_byte (count - 1) high (omega arith) is_high))
+        (ap (λ k. get_or area (k - 2) 0) n ∙ reads_at s place count (count - 2) 0 (omega arith) ∙ sym is_low)
+        (ap (λ k. get_or area (k - 1) 0) n ∙ reads_at s place count (count - 1) 0 (omega arith) ∙ sym is_high)
 
     pub erased_entry : low ≡ 0xFF → high ≡ 0xFF → false ≡ startable accepts area
     erased_entry a b =

@@ -1,30 +1,39 @@
 // Whether an area of a memory may be started, told without a copy of the area.
 #![tactic(auto)]
 
-ghost use Rattle.std.specs.Prelude.{◌≡◌, ℕ, List};
+ghost use Rattle.std.specs.Prelude.{◌≡◌, ◌+◌};
+ghost use Rattle.memory.specs.State.{at};
 ghost use Rattle.image.specs.Check.{accepted};
 ghost use Rattle.image.specs.Startable.{startable};
-ghost use Rattle.area.specs.Reads.{Reads};
+ghost use Rattle.area.specs.Reads.{reads, OneArea};
 
 use image::ImageCheck;
 use memory::Memory;
 
 // Whether so many bytes of a memory from a place up may be started: their entry is not erased, and the check accepts them. A place
 // past the end reads 0xFF.
+// Beside image::startable, whose bytes stand in a slice: one function for both would have to read a slice by a closure too.
 pub fn startable_at<M: Memory, C: ImageCheck>(memory: &M, place: usize, length: usize) -> bool
-    ensures { (area : List ℕ) → Reads (M.Memory.make.state memory.now) place length area → result ≡ startable (accepted C.ImageCheck.check) area }
+    ensures { result ≡ startable (accepted C.ImageCheck.check) (reads (M.Memory.make.state memory.now) place length) }
 {
+    let byte = |i: usize| -> u8
+        ensures { result ≡ at (M.Memory.make.state memory.entry.now) (place + i) }
+    { memory.read(place.saturating_add(i)) };
     if length < 2 {
         return false;
     }
-    let low = memory.read(place.saturating_add(length - 2));
-    let high = memory.read(place.saturating_add(length - 1));
+    let low = byte(length - 2);
+    let high = byte(length - 1);
     if low == 0xFF && high == 0xFF {
         return false;
     }
-    let mut state = C::start();
-    for i in 0..length {
-        state = C::step(state, memory.read(place.saturating_add(i)));
-    }
+    let state = (0..length)
+        .map(byte)
+        .fold(C::start(), |state, byte| C::step(state, byte));
     C::accepts(state)
 }
+
+// What a memory reads as from a place up is one list, the one that the contracts name.
+pub fn one_area_is_read()
+    ensures { OneArea }
+{}

@@ -1,13 +1,11 @@
 -- Effects carried out, by what the code tests.
-use Rattle.std.proofs.Common.{◌≡◌, ℕ, ◌+◌, ◌-◌, ◌/◌, ◌%◌, ◌<◌, ◌≤◌, ◌&&◌, eqb, ltb, leb, List, [], ◌∷◌, length, Ok, Err, sym, refl, ap, ◌∙◌, subst, arith}
+use Rattle.std.proofs.Common.{◌≡◌, ℕ, ◌+◌, ◌-◌, ◌/◌, ◌%◌, ◌<◌, ◌≤◌, ◌&&◌, eqb, ltb, leb, List, [], ◌∷◌, length, Ok, Err, sym, refl, ap, ◌∙◌, arith}
 use Rattle.std.proofs.lemmas.Bool.{cond-true, cond_both, le-leb, lt-ltb, eq-eqb, and_from, and_parts, leb-true, ltb-true, eqb-true}
-use Rattle.memory.specs.State.{State}
 use Rattle.memory.specs.Change.{erase}
 use Rattle.memory.specs.Make.{Make}
 use Rattle.memory.specs.Ran.{Ran}
 use Rattle.memory.specs.declared.Fault.{Fault}
 use Rattle.memory.proofs.Effects.{ran_as}
-use Rattle.area.specs.Reads.{Reads}
 use Rattle.layout.specs.Areas.{address, application_place, application_size}
 use Rattle.layout.specs.declared.divided.Layout.{Layout}
 use Rattle.rule.specs.Command.{Effect, effect, erase_segment, write_block}
@@ -23,27 +21,21 @@ module _ {M : Type 0} {make : Make M} {e : Effect} (f : Effect) (same : f ≡ e)
   pub carried_lost : {x : Fault} → Ran make e.changes m n (Err x) → Carried make f m n (Err x)
   carried_lost ran = ran_as (ap (λ v. v.changes) (sym same)) ran
 
--- the same area, from an equal place up and with an equal length
-pub reads_as : {s : State} {p q a b : ℕ} {area : List ℕ} → p ≡ q → a ≡ b → Reads s q b area → Reads s p a area
-reads_as {s} {p} {q} {a} {b} {area} e f h = subst (λ x. Reads s x a area) (sym e) (subst (λ x. Reads s q x area) (sym f) h)
-
-module _ (l : Layout) (from first : ℕ) (is : first ≡ address l (application_place l)) where
+module _ (l : Layout) (from : ℕ) where
   abbrev base : ℕ
   base = address l (application_place l)
 
-  offset : from - base ≡ from - first
-  offset = ap (λ x. from - x) (sym is)
-
-  pub erase_fine : first ≤ from → from - first < application_size l → (from - first) % 512 ≡ 0
-      → erase_segment l from ≡ effect (erase (1 + (from - first) / 512) ∷ []) Done
-  erase_fine a b c =
+  pub erase_fine : (offset : ℕ) → from ≡ base + offset → offset < application_size l → offset % 512 ≡ 0
+      → erase_segment l from ≡ effect (erase (1 + offset / 512) ∷ []) Done
+  erase_fine offset is a b =
+      let same : from - base ≡ offset = omega arith in
       cond-true (leb base from && (ltb (from - base) (application_size l) && eqb ((from - base) % 512) 0)) _ _
-      (and_from (leb base from) _ (le-leb base from (omega (arith, is)))
-      (and_from (ltb (from - base) (application_size l)) _ (lt-ltb (from - base) _ (omega (arith, offset)))
-      (eq-eqb ((from - base) % 512) 0 (ap (λ x. x % 512) offset ∙ c))))
-      ∙ ap (λ x. effect (erase (1 + x / 512) ∷ []) Done) offset
+      (and_from (leb base from) _ (le-leb base from (omega arith))
+      (and_from (ltb (from - base) (application_size l)) _ (lt-ltb (from - base) _ (omega arith))
+      (eq-eqb ((from - base) % 512) 0 (ap (λ x. x % 512) same ∙ b))))
+      ∙ ap (λ x. effect (erase (1 + x / 512) ∷ []) Done) same
 
-  pub erase_not : (first ≤ from → from - first < application_size l → (from - first) % 512 ≡ 0 → ⊥)
+  pub erase_not : ((offset : ℕ) → from ≡ base + offset → offset < application_size l → offset % 512 ≡ 0 → ⊥)
       → erase_segment l from ≡ effect [] InvalidParams
   erase_not h =
       let inside = ltb (from - base) (application_size l) in
@@ -53,11 +45,10 @@ module _ (l : Layout) (from first : ℕ) (is : first ≡ address l (application_
       let p = and_parts (leb base from) (inside && starts) e in
       let q = and_parts inside starts p.1 in
       let low : base ≤ from = leb-true _ _ p.0 in
-      let high : from - base < application_size l = ltb-true _ _ q.0 in
-      absurd (h (omega (arith, is)) (omega (arith, offset)) (ap (λ x. x % 512) (sym offset) ∙ eqb-true _ _ q.1)))
+      absurd (h (from - base) (omega arith) (ltb-true _ _ q.0) (eqb-true _ _ q.1)))
       (λ _. refl)
 
-  pub write_not : (block : List ℕ) → (first ≤ from → 0 < length block → from + length block ≤ first + application_size l → ⊥)
+  pub write_not : (block : List ℕ) → ((offset : ℕ) → from ≡ base + offset → 0 < length block → offset + length block ≤ application_size l → ⊥)
       → write_block l from block ≡ effect [] InvalidParams
   write_not block h =
       let some = ltb 0 (length block) in
@@ -67,6 +58,5 @@ module _ (l : Layout) (from first : ℕ) (is : first ≡ address l (application_
       let p = and_parts (leb base from) (some && inside) e in
       let q = and_parts some inside p.1 in
       let low : base ≤ from = leb-true _ _ p.0 in
-      let high : (from - base) + length block ≤ application_size l = leb-true _ _ q.1 in
-      absurd (h (omega (arith, is)) (ltb-true _ _ q.0) (omega (arith, is))))
+      absurd (h (from - base) (omega arith) (ltb-true _ _ q.0) (leb-true _ _ q.1)))
       (λ _. refl)

@@ -1,8 +1,12 @@
 -- Commands as the code has them, by their effects.
-use Rattle.std.specs.Prelude.{◌≡◌, Bool, [], Ok, Err, Result}
+use Rattle.std.specs.Prelude.{◌≡◌, ℕ, Bool, List, [], Ok, Err, Result}
+use Rattle.memory.specs.State.{State}
 use Rattle.memory.specs.Make.{Make}
 use Rattle.memory.specs.Ran.{Ran, erases}
 use Rattle.memory.specs.declared.Fault.{Fault}
+use Rattle.area.specs.Reads.{reads}
+use Rattle.image.specs.Startable.{startable}
+use Rattle.layout.specs.Areas.{application_size, download_place}
 use Rattle.layout.specs.declared.divided.Layout.{Layout}
 use Rattle.rule.specs.Command.{Effect, effect, erase_segment, write_block, jump}
 use Rattle.rule.specs.Performed.{Performed}
@@ -12,6 +16,10 @@ use Rattle.words.specs.declared.Refusal.{Refusal}
 use Rattle.commands.specs.declared.Command.{Command}
 use Rattle.commands.specs.declared.Command.TheVariants as C
 use Rattle.commands.specs.declared.Response.{Response}
+
+-- whether the download area of a memory may be started
+abbrev pub ready : (List ℕ → Bool) → Layout → State → Bool
+ready accepts l s = startable accepts (reads s download_place (application_size l))
 
 -- what a command does; `can` says whether the download area is startable
 abbrev pub effect_of : Layout → Bool → Command → Effect

@@ -1,31 +1,24 @@
 // The commands of the host, and what each does to the memory.
 #![tactic(auto)]
 
-ghost use Rattle.std.specs.Prelude.{◌≡◌, ℕ, Bool, List};
+ghost use Rattle.std.specs.Prelude.{◌≡◌, ◌+◌, ◌<◌, Bool, MatchOption};
 ghost use Rattle.image.specs.Check.{accepted};
-ghost use Rattle.image.specs.Startable.{startable};
-ghost use Rattle.area.specs.Reads.{Reads};
-ghost use Rattle.layout.specs.Areas.{address, application_place, application_size, download_place};
+ghost use Rattle.layout.specs.Areas.{address as the_address, application_place};
 ghost use Rattle.layout.specs.declared.divided.Layout.{Layout as Areas};
 ghost use Rattle.memory.specs.Ran.{erases};
 ghost use Rattle.rule.specs.Command.{effect, erase_segment, write_block, jump, obey as the_effect};
-ghost use Rattle.rule.specs.Performed.{refusing};
 ghost use Rattle.words.specs.declared.Answer.TheVariants.{Done};
-ghost use Rattle.words.specs.declared.Phase.TheVariants.{Listening, Waiting};
-ghost use Rattle.words.specs.declared.Job.TheVariants.{HostCommand};
-ghost use Rattle.commands.specs.Obeyed.{effect_of, Carried, Obeyed};
+ghost use Rattle.commands.specs.Obeyed.{ready, effect_of, Carried, Obeyed};
 
 use area::startable_at;
 use image::ImageCheck;
-use layout::Layout;
+use layout::{Layout, mark};
 use memory::{Fault, Memory, erase_all, write_all};
+use rule::refusal;
 use words::{Answer, Job, Phase, Refusal};
 
-// The mark of an approved image.
-const APPROVED: u8 = 0x5A;
-
 // What a good frame's payload asks for. A block's data are a part of the payload.
-#[derive(Drop)]
+#[derive(Clone, Copy, Debug, PartialEq, Eq)]
 pub enum Command<'p> {
     EraseSegment { address: u16 },
     EraseAll,
@@ -37,10 +30,18 @@ pub enum Command<'p> {
 }
 
 // What is sent back, and what the controller does then.
-#[derive(Clone, Copy)]
+#[derive(Clone, Copy, Debug, PartialEq, Eq)]
 pub struct Response {
     pub answer: Answer,
     pub phase: Phase,
+}
+
+impl Response {
+    fn new(answer: Answer, phase: Phase) -> Response
+        ensures { result ≡ record { answer = answer; phase = phase } }
+    {
+        Response { answer, phase }
+    }
 }
 
 // The command that a payload is. Bytes that it has no use for are ignored.
@@ -63,31 +64,12 @@ pub fn parse(payload: &[u8]) -> Command<'_>
     }
 }
 
-// An answer after which the controller goes on listening.
-fn answered(answer: Answer) -> Response
-    ensures { result ≡ record { answer = answer; phase = Listening } }
+// How far an address lies above the first one that the host may name.
+fn offset(layout: &Layout, address: u16) -> Option<usize>
+    ensures { let first = the_address layout.now (application_place layout.now) in MatchOption result (address < first) (λ offset. address ≡ first + offset) }
 {
-    Response {
-        answer,
-        phase: Phase::Listening,
-    }
-}
-
-// An answer after which the controller waits.
-fn waiting(answer: Answer) -> Response
-    ensures { result ≡ record { answer = answer; phase = Waiting } }
-{
-    Response {
-        answer,
-        phase: Phase::Waiting,
-    }
-}
-
-// The first address that the host may name.
-fn first_address(layout: &Layout) -> usize
-    ensures { result ≡ address layout.now (application_place layout.now) }
-{
-    usize::from(layout.application_address())
+    let first = usize::from(layout.application_address());
+    usize::from(address).checked_sub(first)
 }
 
 // The address has to start a segment of the application area; the matching download segment is erased.
@@ -98,13 +80,12 @@ fn erase_segment<M: Memory>(
 ) -> Result<Response, Fault>
     ensures { Carried M.Memory.make (erase_segment layout.now address) memory.old memory.new result }
 {
-    let first = first_address(layout);
-    let from = usize::from(address);
-    if first <= from && from - first < layout.application_size() && (from - first) % 512 == 0 {
-        memory.erase(1 + (from - first) / 512)?;
-        Ok(answered(Answer::Done))
-    } else {
-        Ok(answered(Answer::InvalidParams))
+    match offset(layout, address) {
+        Some(offset) if offset < layout.application_size() && offset % 512 == 0 => {
+            memory.erase(1 + offset / 512)?;
+            Ok(Response::new(Answer::Done, Phase::Listening))
+        }
+        _ => Ok(Response::new(Answer::InvalidParams, Phase::Listening)),
     }
 }
 
@@ -117,14 +98,12 @@ fn write_block<M: Memory>(
 ) -> Result<Response, Fault>
     ensures { Carried M.Memory.make (write_block layout.now address block.now) memory.old memory.new result }
 {
-    let first = first_address(layout);
-    let end = first + layout.application_size();
-    let from = usize::from(address);
-    if first <= from && !block.is_empty() && from + block.len() <= end {
-        write_all(memory, layout.download_place() + (from - first), block)?;
-        Ok(answered(Answer::Done))
-    } else {
-        Ok(answered(Answer::InvalidParams))
+    match offset(layout, address) {
+        Some(offset) if !block.is_empty() && offset + block.len() <= layout.application_size() => {
+            write_all(memory, layout.download_place() + offset, block)?;
+            Ok(Response::new(Answer::Done, Phase::Listening))
+        }
+        _ => Ok(Response::new(Answer::InvalidParams, Phase::Listening)),
     }
 }
 
@@ -132,18 +111,25 @@ fn erase_downloads<M: Memory>(memory: &mut M, layout: &Layout) -> Result<Respons
     ensures { Carried M.Memory.make (effect (erases 1 layout.now.k) Done) memory.old memory.new result }
 {
     erase_all(memory, 1, layout.k())?;
-    Ok(answered(Answer::Done))
+    Ok(Response::new(Answer::Done, Phase::Listening))
+}
+
+// Whether the download area may be started.
+fn is_ready<M: Memory, C: ImageCheck>(memory: &M, layout: &Layout) -> bool
+    ensures { result ≡ ready (accepted C.ImageCheck.check) layout.now (M.Memory.make.state memory.now) }
+{
+    startable_at::<M, C>(memory, layout.download_place(), layout.application_size())
 }
 
 // Marks a startable download area as approved. The controller waits in either case.
 fn approve<M: Memory, C: ImageCheck>(memory: &mut M, layout: &Layout) -> Result<Response, Fault>
-    ensures { (area : List ℕ) → Reads (M.Memory.make.state memory.old) download_place (application_size layout.now) area → Carried M.Memory.make (jump (startable (accepted C.ImageCheck.check) area)) memory.old memory.new result }
+    ensures { Carried M.Memory.make (jump (ready (accepted C.ImageCheck.check) layout.now (M.Memory.make.state memory.old))) memory.old memory.new result }
 {
-    if startable_at::<M, C>(memory, layout.download_place(), layout.application_size()) {
-        memory.write(0, APPROVED)?;
-        Ok(waiting(Answer::Done))
+    if is_ready::<M, C>(memory, layout) {
+        memory.write(0, mark::APPROVED)?;
+        Ok(Response::new(Answer::Done, Phase::Waiting))
     } else {
-        Ok(waiting(Answer::InvalidParams))
+        Ok(Response::new(Answer::InvalidParams, Phase::Waiting))
     }
 }
 
@@ -152,28 +138,16 @@ fn carry_out<M: Memory, C: ImageCheck>(
     layout: &Layout,
     payload: &[u8],
 ) -> Result<Response, Fault>
-    ensures { (area : List ℕ) → Reads (M.Memory.make.state memory.old) download_place (application_size layout.now) area → Carried M.Memory.make (the_effect layout.now (startable (accepted C.ImageCheck.check) area) payload.now) memory.old memory.new result }
+    ensures { Carried M.Memory.make (the_effect layout.now (ready (accepted C.ImageCheck.check) layout.now (M.Memory.make.state memory.old)) payload.now) memory.old memory.new result }
 {
     match parse(payload) {
         Command::EraseSegment { address } => erase_segment(memory, layout, address),
         Command::EraseAll => erase_downloads(memory, layout),
         Command::WriteBlock { address, block } => write_block(memory, layout, address, block),
-        Command::Version => Ok(answered(Answer::Version)),
+        Command::Version => Ok(Response::new(Answer::Version, Phase::Listening)),
         Command::Jump => approve::<M, C>(memory, layout),
-        Command::NoAddress => Ok(answered(Answer::InvalidParams)),
-        Command::Unknown => Ok(answered(Answer::IncorrectCommand)),
-    }
-}
-
-fn refusal(fault: Fault) -> Refusal
-    ensures { result ≡ refusing (λ _. HostCommand) fault }
-{
-    match fault {
-        Fault::SupplyLost(place) => Refusal::SupplyLost {
-            place,
-            job: Job::HostCommand,
-        },
-        Fault::PastEnd => Refusal::PastEnd,
+        Command::NoAddress => Ok(Response::new(Answer::InvalidParams, Phase::Listening)),
+        Command::Unknown => Ok(Response::new(Answer::IncorrectCommand, Phase::Listening)),
     }
 }
 
@@ -183,10 +157,7 @@ pub fn obey<M: Memory, C: ImageCheck>(
     layout: &Layout,
     payload: &[u8],
 ) -> Result<Response, Refusal>
-    ensures { (area : List ℕ) → Reads (M.Memory.make.state memory.old) download_place (application_size layout.now) area → Obeyed M.Memory.make (the_effect layout.now (startable (accepted C.ImageCheck.check) area) payload.now) memory.old memory.new result }
+    ensures { Obeyed M.Memory.make (the_effect layout.now (ready (accepted C.ImageCheck.check) layout.now (M.Memory.make.state memory.old)) payload.now) memory.old memory.new result }
 {
-    match carry_out::<M, C>(memory, layout, payload) {
-        Ok(response) => Ok(response),
-        Err(fault) => Err(refusal(fault)),
-    }
+    carry_out::<M, C>(memory, layout, payload).map_err(|fault| refusal(fault, |_| Job::HostCommand))
 }

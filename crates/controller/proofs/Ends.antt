@@ -7,7 +7,8 @@ use Rattle.memory.specs.Make.{Make, Laws}
 use Rattle.memory.specs.Ran.{Ran, none, stop, more, Within}
 use Rattle.memory.specs.declared.Fault.TheVariants as F
 use Rattle.memory.proofs.Effects.{not_refused, changed_apart}
-use Rattle.area.specs.Reads.{Reads}
+use Rattle.area.specs.Reads.{reads}
+use Rattle.area.proofs.Starting.{one_area}
 use Rattle.layout.specs.Areas.{part}
 use Rattle.rule.specs.Performed.{Performed, ended}
 use Rattle.rule.proofs.Areas.{part_length, part_at}
@@ -16,8 +17,9 @@ use Rattle.words.specs.declared.Refusal.{Refusal}
 use Rattle.words.specs.declared.Refusal.TheVariants.{SupplyLost}
 
 -- an area within the memory is what is read there
-pub reads_part : (s : State) (place count : ℕ) → place + count ≤ size s → Reads s place count (part place count s.bytes)
-reads_part s place count h = record { length = part_length place count s.bytes h; bytes = part_at place count s.bytes }
+pub reads_part : (s : State) (place count : ℕ) → place + count ≤ size s → part place count s.bytes ≡ reads s place count
+reads_part s place count h =
+    (one_area s place count (part place count s.bytes)).0 (record { length = part_length place count s.bytes h; bytes = part_at place count s.bytes })
 
 -- a refusal for its place is no loss of supply
 past_not_lost : {A : Type 0} {r : End} {place : ℕ} → r ≡ Err F.PastEnd → r ≡ Err (F.SupplyLost place) → A

@@ -5,8 +5,7 @@ use Rattle.memory.specs.State.{size}
 use Rattle.memory.specs.Change.{Change}
 use Rattle.memory.specs.Make.{Make, Laws}
 use Rattle.memory.specs.Ran.{none, Within}
-use Rattle.area.specs.Reads.{Reads}
-use Rattle.commands.specs.Obeyed.{Obeyed, response}
+use Rattle.commands.specs.Obeyed.{ready, Obeyed, response}
 use Rattle.commands.specs.declared.Response.{Response}
 use Rattle.image.specs.Startable.{startable}
 use Rattle.layout.specs.Areas.{size as whole_size, download_place, application_place, application_size, download}
@@ -96,7 +95,7 @@ module _ {M : Type 0} {make : Make M} (laws : Laws make) (accepts : List ℕ →
 
     -- a command was carried out
     module _ (n : ℕ) (is : r ≡ Ok (Some n)) (payload : List ℕ) (part : payload ≡ take n buffer) (after : M) (obeyed : Result Response Refusal)
-        (ensures : (area : List ℕ) → Reads (make.state m) download_place (application_size l) area → Obeyed make (obey l (startable accepts area) payload) m after obeyed) where
+        (ensures : Obeyed make (obey l (ready accepts l (make.state m)) payload) m after obeyed) where
       abbrev asked : Effect
       asked = obey l can payload
 
@@ -107,7 +106,7 @@ module _ {M : Type 0} {make : Make M} (laws : Laws make) (accepts : List ℕ →
       end =
           told_end laws 0 (application_place l)
           (subst (λ (q : Plan (List ℕ) Reply). Within 0 (application_place l) q.changes) (sym (plan_is found)) (plan_within before can byte heard)) (omega arith)
-          (ensures (download l (make.state m).bytes) (reads_part (make.state m) download_place (application_size l) (omega arith)))
+          (subst (λ area. Obeyed make (obey l (startable accepts area) payload) m after obeyed) (sym (reads_part (make.state m) download_place (application_size l) (omega arith))) ensures)
 
       pub replies : (x : Response) → obeyed ≡ Ok x → Called (Tell byte) (with p f m) (with x.phase g after) (Ok (Said (Some x.answer)))
       replies x so = by end

@@ -4,7 +4,7 @@ use Rattle.std.proofs.lemmas.Bool.{eq-eqb, false≢true}
 use Rattle.memory.specs.State.{size}
 use Rattle.memory.specs.Make.{Make, Laws}
 use Rattle.memory.proofs.Effects.{ran_size}
-use Rattle.area.specs.Reads.{Reads}
+use Rattle.area.specs.Reads.{reads}
 use Rattle.layout.specs.Areas.{size as whole_size, application_place, application_size, application}
 use Rattle.layout.specs.declared.divided.Layout.{Layout}
 use Rattle.mending.specs.Mended.{Mended, mismatch, done}
@@ -41,14 +41,14 @@ module _ {M : Type 0} {make : Make M} (laws : Laws make) (accepts : List ℕ →
 
   -- all changes have finished, and a phase was chosen
   pub finishes : Mended make l w n (Ok tt) → (q : Phase) (g : List ℕ)
-      → ((area : List ℕ) → Reads (make.state n) (application_place l) (application_size l) area → q ≡ choice accepts i area) → g ≡ []
+      → q ≡ choice accepts i (reads (make.state n) (application_place l) (application_size l)) → g ≡ []
       → Called (Restart i) (with p f m) (with q g n) (Ok (Chose q))
   finishes h q g chosen none = by (end h)
     where
       by : ToldEnd make (mends l (make.state w).bytes) (restart_job l) (tt {0}) w n (Ok (tt {0})) → Called (Restart i) (with p f m) (with q g n) (Ok (Chose q))
       by (all ran told) =
           let fits : size (make.state n) ≡ whole_size l = ran_size laws ran ∙ restored in
-          let is = chosen (application l (make.state n).bytes) (reads_part (make.state n) (application_place l) (application_size l) (omega arith)) in
+          let is = chosen ∙ ap (choice accepts i) (sym (reads_part (make.state n) (application_place l) (application_size l) (omega arith))) in
           by_made (whole ran (ap₂ (λ a b. record { layout = l; phase = a; packet = b }) is none) (ap (λ p. Ok (Chose p)) is))
       by (lost place ran told) = ok_not_err told
 

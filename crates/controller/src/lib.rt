@@ -3,7 +3,7 @@
 
 ghost use Rattle.std.specs.Prelude.{◌≡◌, ℕ, List};
 ghost use Rattle.image.specs.Check.{accepted};
-ghost use Rattle.area.specs.Reads.{Reads};
+ghost use Rattle.area.specs.Reads.{reads};
 ghost use Rattle.layout.specs.Areas.{application_place, application_size};
 ghost use Rattle.rule.specs.Bus.{fresh};
 ghost use Rattle.rule.specs.Restart.{forced, choice};
@@ -17,7 +17,7 @@ ghost use Rattle.controller.specs.Playing.{Played, Run};
 use area::startable_at;
 use commands::obey;
 use image::ImageCheck;
-use layout::Layout;
+use layout::{Layout, mark};
 use memory::Memory;
 use mending::mend;
 use receiver::Receiver;
@@ -42,7 +42,7 @@ fn is_forced(inputs: Inputs) -> bool
 
 // The phase that a restart chooses, by its inputs and by the application area as it is now.
 fn choose<M: Memory, C: ImageCheck>(memory: &M, layout: &Layout, inputs: Inputs) -> Phase
-    ensures { (area : List ℕ) → Reads (M.Memory.make.state memory.now) (application_place layout.now) (application_size layout.now) area → result ≡ choice (accepted C.ImageCheck.check) inputs area }
+    ensures { result ≡ choice (accepted C.ImageCheck.check) inputs (reads (M.Memory.make.state memory.now) (application_place layout.now) (application_size layout.now)) }
 {
     if is_forced(inputs) {
         return Phase::Listening;
@@ -87,7 +87,7 @@ impl Controller {
         if memory.size() != layout.size() {
             return Err(Refusal::WrongSize);
         }
-        if memory.read(0) != 0xFF {
+        if memory.read(0) != mark::ERASED {
             return Err(Refusal::MarkNotErased);
         }
         self.layout = layout;

@@ -2,5 +2,6 @@
 #![tactic(auto)]
 
 mod divided;
+pub mod mark;
 
 pub use divided::Layout;

@@ -1,5 +1,9 @@
 -- Download segments copied one after the other, each read from the memory as it then is.
-use Rattle.std.proofs.Common.{◌≡◌, ℕ, suc, ◌+◌, ◌-◌, ◌*◌, ◌<◌, ◌≤◌, List, [], ◌∷◌, ◌++◌, length, get_or, Ok, Err, sym, refl, ap, ◌∙◌, subst, inl, arith}
+use denote.Param.Members.{Mut}
+use Rattle.std.proofs.Common.{◌≡◌, ℕ, zero, suc, ⊎_elim, ◌+◌, ◌-◌, ◌*◌, ◌<◌, ◌≤◌, List, [], ◌∷◌, ◌++◌, length, get_or, Ok, Err, sym, refl, ap, ◌∙◌, subst, inl, arith}
+use Rattle.std.specs.Array.{IsFromFnResult, IsFromFnResultFrom}
+use Rattle.std.specs.Fn.{Called}
+use Rattle.std.proofs.lemmas.Bool.{cases_lt}
 use Rattle.std.proofs.lemmas.List.{ext_get_or, get_or_default}
 use Rattle.memory.specs.State.{at, size}
 use Rattle.memory.specs.Change.{Change, erase, End}
@@ -32,6 +36,24 @@ pub part_read : (xs buffer : List ℕ) (from : ℕ) → length buffer ≡ 512 �
 part_read xs buffer from long h read =
     ext_get_or 0xFF buffer (part from 512 xs) (long ∙ sym (part_length from 512 xs h)) (λ i lt.
     get_or_default buffer i 0xFF 0 lt ∙ read i (omega arith) ∙ sym (part_at from 512 xs i (omega arith)))
+
+-- an array whose elements a closure that computes h made
+made_from : {F : Type 0} (g : Mut F (ℕ × Unit {0}) ℕ) (h : ℕ → ℕ) (f : F) → ((k r : ℕ) (q : F) → Called g f (k, tt) r q → (r ≡ h k) × (q ≡ f))
+    → (ys : List ℕ) (i n : ℕ) → IsFromFnResultFrom g f ys i n → (k : ℕ) → i ≤ k → k < i + n → get_or ys k 0 ≡ h k
+made_from g h f calls ys i zero made k a b = absurd (omega arith)
+made_from g h f calls ys i (suc n) (q, y, is, called, rest) k a b =
+    let c = calls i y q called in
+    ⊎_elim
+    (λ (later : i < k).
+    made_from g h f calls ys (i + 1) n (subst (λ p. IsFromFnResultFrom g p ys (i + 1) n) c.1 rest) k (omega arith) (omega arith))
+    (λ (here : k ≤ i).
+    let same : i ≡ k = omega arith in
+    subst (λ j. get_or ys j 0 ≡ h j) same (is.1 0 ∙ c.0))
+    (cases_lt i k)
+
+pub made_by : {F : Type 0} {g : Mut F (ℕ × Unit {0}) ℕ} {f : F} {ys : List ℕ} {n : ℕ} → IsFromFnResult g f ys n → (h : ℕ → ℕ)
+    → ((k r : ℕ) (q : F) → Called g f (k, tt) r q → (r ≡ h k) × (q ≡ f)) → (k : ℕ) → k < n → get_or ys k 0 ≡ h k
+made_by {g = g} {f = f} {ys = ys} {n = n} made h calls k lt = made_from g h f calls ys 0 n made.each k (omega arith) (omega arith)
 
 copies_next : (l : Layout) (xs : List ℕ) (n i : ℕ) → i < n → copies l xs i (n - i) ≡ copy l xs i ++ copies l xs (i + 1) (n - (i + 1))
 copies_next l xs n i h = let e : n - i ≡ suc (n - (i + 1)) = omega arith in ap (copies l xs i) e

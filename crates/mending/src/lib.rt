@@ -6,17 +6,15 @@ ghost use Rattle.memory.specs.State.{size as the_size};
 ghost use Rattle.memory.specs.Ran.{Ran};
 ghost use Rattle.layout.specs.Areas.{size as whole_size};
 ghost use Rattle.rule.specs.Restart.{copies, clears, mends, restart_job};
-ghost use Rattle.rule.specs.Performed.{refusing};
 ghost use Rattle.mending.specs.Mended.{segment_copy, Mended};
 
-use layout::Layout;
+use layout::{Layout, mark};
 use memory::{Fault, Memory, erase_all, write_all};
+use rule::refusal;
+use std::array;
 use words::{Job, Refusal};
 
-// The mark of an approved image, and that of none.
-const APPROVED: u8 = 0x5A;
-
-const ERASED: u8 = 0xFF;
+// Memory and layout are passed side by side: each method of a struct of the two would have to promise as well that it still holds the same two.
 
 // Copies one segment over another by way of a buffer.
 fn copy_segment<M: Memory>(memory: &mut M, from: usize, to: usize) -> Result<(), Fault>
@@ -24,12 +22,9 @@ fn copy_segment<M: Memory>(memory: &mut M, from: usize, to: usize) -> Result<(),
     requires few { (from < 105) × (to < 105) }
     ensures { Ran M.Memory.make (segment_copy from to (M.Memory.make.state memory.old).bytes) memory.old memory.new result }
 {
-    let mut buffer = [0; 512];
-    for i in 0..512 {
-        buffer[i] = memory.read(512 * from + i);
-    }
+    let bytes: [u8; 512] = array::from_fn(|i| memory.read(512 * from + i));
     memory.erase(to)?;
-    write_all(memory, 512 * to, &buffer)
+    write_all(memory, 512 * to, &bytes)
 }
 
 // Copies each download segment over its application segment, from the lowest up.
@@ -58,8 +53,8 @@ fn change<M: Memory>(memory: &mut M, layout: &Layout) -> Result<(), Fault>
     ensures { Ran M.Memory.make (mends layout.now (M.Memory.make.state memory.old).bytes) memory.old memory.new result }
 {
     match memory.read(0) {
-        ERASED => Ok(()),
-        APPROVED => {
+        mark::ERASED => Ok(()),
+        mark::APPROVED => {
             copy_all(memory, layout)?;
             clear(memory, layout)
         }
@@ -80,18 +75,6 @@ fn job_at(layout: &Layout, place: usize) -> Job
     }
 }
 
-fn refusal(layout: &Layout, fault: Fault) -> Refusal
-    ensures { result ≡ refusing (restart_job layout.now) fault }
-{
-    match fault {
-        Fault::SupplyLost(place) => Refusal::SupplyLost {
-            place,
-            job: job_at(layout, place),
-        },
-        Fault::PastEnd => Refusal::PastEnd,
-    }
-}
-
 // Brings an approved image into place and erases the mark and the download area, where there is a mark. A memory of another size than
 // the layout's is refused.
 pub fn mend<M: Memory>(memory: &mut M, layout: &Layout) -> Result<(), Refusal>
@@ -100,8 +83,5 @@ pub fn mend<M: Memory>(memory: &mut M, layout: &Layout) -> Result<(), Refusal>
     if memory.size() != layout.size() {
         return Err(Refusal::WrongSize);
     }
-    match change(memory, layout) {
-        Ok(()) => Ok(()),
-        Err(fault) => Err(refusal(layout, fault)),
-    }
+    change(memory, layout).map_err(|fault| refusal(fault, |place| job_at(layout, place)))
 }

@@ -4,11 +4,13 @@
 ghost use Rattle.image.specs.Check.{accepted};
 ghost use Rattle.rule.specs.Bus.{Bus, Law};
 ghost use Rattle.rule.specs.Calls.{engine};
+ghost use Rattle.rule.specs.Performed.{Refuses};
 ghost use Rattle.rule.specs.Rule.{Rule};
 ghost use Rattle.rule.specs.Frames.{Unfinished, ActsOnGoodFrames, JumpsTold};
 
 use image::ImageCheck;
-use memory::Memory;
+use memory::{Fault, Memory};
+use words::{Job, Refusal};
 
 // A bus by which a host speaks to a controller.
 pub trait HostBus {
@@ -32,3 +34,17 @@ pub fn good_frames_are_acted_on<M: Memory, C: ImageCheck>()
 pub fn jumps_are_told_by_their_answer<M: Memory, C: ImageCheck>()
     ensures { JumpsTold (accepted C.ImageCheck.check) M.Memory.make }
 {}
+
+// A fault as a call tells it. The job of a lost change is found by its place.
+pub fn refusal<F: FnOnce(usize) -> Job>(fault: Fault, job: F) -> Refusal
+    requires { F.IsAlwaysCallable job }
+    ensures { Refuses (F.post job) fault result }
+{
+    match fault {
+        Fault::SupplyLost(place) => Refusal::SupplyLost {
+            place,
+            job: job(place),
+        },
+        Fault::PastEnd => Refusal::PastEnd,
+    }
+}

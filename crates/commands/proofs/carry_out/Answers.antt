@@ -4,12 +4,12 @@ use Rattle.commands.proofs.Carrying.{carried_done}
 use Rattle.commands.proofs.carry_out.Goals as goal
 
 pub returns-in-Version : goal.returns-in-Version
-returns-in-Version g c area reads = carried_done _ (sym (c.in-Version.ensures c.args.layout.now _)) (none refl refl) c.answered.ensures
+returns-in-Version g c = carried_done _ (sym (c.in-Version.ensures c.args.layout.now _)) (none refl refl) c.new.ensures
 
 pub returns-in-NoAddress : goal.returns-in-NoAddress
-returns-in-NoAddress g c area reads =
-    carried_done _ (sym (c.in-NoAddress.ensures c.args.layout.now _)) (none refl refl) c.answered-in-NoAddress.ensures
+returns-in-NoAddress g c =
+    carried_done _ (sym (c.in-NoAddress.ensures c.args.layout.now _)) (none refl refl) c.new-in-NoAddress.ensures
 
 pub returns-in-Unknown : goal.returns-in-Unknown
-returns-in-Unknown g c area reads =
-    carried_done _ (sym (c.in-Unknown.ensures c.args.layout.now _)) (none refl refl) c.answered-in-Unknown.ensures
+returns-in-Unknown g c =
+    carried_done _ (sym (c.in-Unknown.ensures c.args.layout.now _)) (none refl refl) c.new-in-Unknown.ensures

@@ -1,33 +1,29 @@
-use Rattle.std.proofs.Common.{sym, refl, ap, ◌∙◌, arith}
+use Rattle.std.proofs.Common.{◌≡◌, ◌%◌, refl, ap, ◌∙◌, arith}
 use Rattle.std.proofs.lemmas.Result.{err_from_is_err_and}
 use Rattle.memory.specs.Ran.{none, stop, more}
-use Rattle.rule.specs.Command.{erase_segment}
 use Rattle.commands.proofs.Carrying.{carried_done, carried_lost, erase_fine, erase_not}
 use Rattle.commands.proofs.erase_segment.Goals as goal
-use Rattle.commands.proofs.erase_segment.Goals.{else-first-from-via-then-first-from+then-from-first+else-from-first-eq0, else-first-from-via-then-first-from+else-from-first, else-first-from-via-else-first-from}
+use Rattle.commands.proofs.erase_segment.Goals.{in_default-via-in-Some+then-offset-application_size+else-offset-eq0, in_default-via-in-Some+else-offset-application_size, in_default-via-in_default}
 
-pub returns-in_err-erase : goal.returns-in_err-erase
-returns-in_err-erase g c =
+pub returns-in_err-erase-in-Some : goal.returns-in_err-erase-in-Some
+returns-in_err-erase-in-Some g c =
     let p = err_from_is_err_and c.from_residual.result c.from_residual.ensures.1 in
-    let l = c.args.layout.now in
-    let e = erase_fine l c.from-from.result c.first_address-first.result c.first_address-first.ensures
-    c.if-first-from.true (omega (arith, c.if-from-first.true, c.application_size.ensures)) c.if-from-first-eq0.true in
-    rw (p.1, p.2) (carried_lost _ (ap (erase_segment l) (sym c.from-from.ensures) ∙ e) (stop _ c.in_err-erase.ensures refl))
+    let e = erase_fine c.args.layout.now c.args.address c.in-Some.offset c.in-Some.ensures (omega arith) c.if-offset-eq0.true in
+    rw (p.1, p.2) (carried_lost _ e (stop _ c.in_err-erase-in-Some.ensures refl))
 
-pub returns-in_ok-erase : goal.returns-in_ok-erase
-returns-in_ok-erase g c =
-    let l = c.args.layout.now in
-    let e = erase_fine l c.from-from.result c.first_address-first.result c.first_address-first.ensures
-    c.if-first-from.true (omega (arith, c.if-from-first.true, c.application_size.ensures)) c.if-from-first-eq0.true in
-    carried_done _ (ap (erase_segment l) (sym c.from-from.ensures) ∙ e) (more c.in_ok-erase.ensures (none refl refl)) c.answered.ensures
+pub returns-in_ok-erase-in-Some : goal.returns-in_ok-erase-in-Some
+returns-in_ok-erase-in-Some g c =
+    let e = erase_fine c.args.layout.now c.args.address c.in-Some.offset c.in-Some.ensures (omega arith) c.if-offset-eq0.true in
+    carried_done _ e (more c.in_ok-erase-in-Some.ensures (none refl refl)) c.new.ensures
 
-pub returns-else-first-from : goal.returns-else-first-from
-returns-else-first-from g c =
-    let l = c.args.layout.now in
-    let e = erase_not l c.from-from.result c.first_address-first.result c.first_address-first.ensures (λ x y z.
-    elim c.else-first-from.branch [
-      | else-first-from-via-then-first-from+then-from-first+else-from-first-eq0 w ↦ w.if-from-first-eq0.false z
-      | else-first-from-via-then-first-from+else-from-first w ↦ omega (arith, w.if-from-first.false, w.application_size.ensures)
-      | else-first-from-via-else-first-from w ↦ omega (arith, w.if-first-from.false)
+pub returns-in_default : goal.returns-in_default
+returns-in_default g c =
+    let e = erase_not c.args.layout.now c.args.address (λ offset is inside starts.
+    elim c.in_default.branch [
+      | in_default-via-in-Some+then-offset-application_size+else-offset-eq0 w ↦
+          let same : w.in-Some.offset ≡ offset = omega (arith, w.in-Some.ensures) in
+          w.if-offset-eq0.false (ap (λ x. x % 512) same ∙ starts)
+      | in_default-via-in-Some+else-offset-application_size w ↦ omega (arith, w.in-Some.ensures)
+      | in_default-via-in_default w ↦ omega (arith, w.in_default.ensures)
     ]) in
-    carried_done _ (ap (erase_segment l) (sym c.from-from.ensures) ∙ e) (none refl refl) c.answered-else-first-from.ensures
+    carried_done _ e (none refl refl) c.new-in_default.ensures

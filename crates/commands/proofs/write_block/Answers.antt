@@ -3,14 +3,14 @@ use Rattle.std.proofs.lemmas.Bool.{eqb-true}
 use Rattle.memory.specs.Ran.{none}
 use Rattle.commands.proofs.Carrying.{carried_done, write_not}
 use Rattle.commands.proofs.write_block.Goals as goal
-use Rattle.commands.proofs.write_block.Goals.{else-first-from-via-then-first-from+then-not-is_empty+else-from-block, else-first-from-via-then-first-from+else-not-is_empty, else-first-from-via-else-first-from}
+use Rattle.commands.proofs.write_block.Goals.{in_default-via-in-Some+then-not-is_empty+else-offset-block, in_default-via-in-Some+else-not-is_empty, in_default-via-in_default}
 
-pub returns-else-first-from : goal.returns-else-first-from
-returns-else-first-from g c =
-    let e = write_not c.args.layout.now c.args.address c.first_address-first.result c.first_address-first.ensures c.args.block.now (λ x y z.
-    elim c.else-first-from.branch [
-      | else-first-from-via-then-first-from+then-not-is_empty+else-from-block w ↦ omega (arith, w.if-from-block.false)
-      | else-first-from-via-then-first-from+else-not-is_empty w ↦ omega (arith, eqb-true _ _ (sym w.if-not-is_empty.ensures))
-      | else-first-from-via-else-first-from w ↦ omega (arith, w.if-first-from.false)
+pub returns-in_default : goal.returns-in_default
+returns-in_default g c =
+    let e = write_not c.args.layout.now c.args.address c.args.block.now (λ offset is some inside.
+    elim c.in_default.branch [
+      | in_default-via-in-Some+then-not-is_empty+else-offset-block w ↦ omega (arith, w.in-Some.ensures, w.if-offset-block.false)
+      | in_default-via-in-Some+else-not-is_empty w ↦ omega (arith, eqb-true _ _ (sym w.if-not-is_empty.ensures))
+      | in_default-via-in_default w ↦ omega (arith, w.in_default.ensures)
     ]) in
-    carried_done _ e (none refl refl) c.answered-else-first-from.ensures
+    carried_done _ e (none refl refl) c.new-in_default.ensures
