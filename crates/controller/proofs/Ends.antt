@@ -1,5 +1,6 @@
 -- How the changes of a call end: the supply with them, and never past the end of a memory of the right size.
-use Rattle.std.proofs.Common.{◌≡◌, ℕ, ◌+◌, ◌≤◌, true, false, List, Ok, Err, Result, refl, ap, ◌∙◌, arith}
+use Rattle.std.proofs.Common.{◌≡◌, ℕ, ◌+◌, ◌≤◌, true, false, List, Ok, Err, Result, sym, refl, ap, ◌∙◌, arith}
+use Rattle.std.specs.Result.{MatchResult, IsOkAnd, result_map_both}
 use Rattle.memory.specs.State.{State, size}
 use Rattle.memory.specs.Change.{Change, End, Changed, past, off, finished, torn}
 use Rattle.memory.specs.Make.{Make, Laws}
@@ -83,3 +84,10 @@ told_end {M} {X} {make} laws {cs} {job} {x} {m} {n} {r} lo hi w h done = by done
     by (Ok tt) ran told = all ran told
     by (Err F.PastEnd) ran told = absurd (not_past laws lo hi w h ran refl)
     by (Err (F.SupplyLost place)) ran told = lost place ran told
+
+-- a result with its value told by a function
+pub mapped : {X Y E : Type 0} (f : X → Y) (r : Result X E) (o : Result Y E)
+    → MatchResult r (λ x. IsOkAnd o (λ y. y ≡ f x)) (λ e. o ≡ Err e) → result_map_both f (λ e. e) r ≡ o
+mapped f (Ok x) (Ok y) h = ap Ok (sym h)
+mapped f (Ok x) (Err _) h = elim h [ ]
+mapped f (Err e) o h = sym h

@@ -1,5 +1,5 @@
 -- A received byte, by what its code does in turn.
-use Rattle.std.proofs.Common.{◌≡◌, ℕ, Bool, true, ◌⊎◌, List, [], ◌∷◌, ◌++◌, Ok, Err, Result, sym, refl, ap, ◌∙◌, subst, ap₂, inl, inr, arith, Some, None}
+use Rattle.std.proofs.Common.{◌≡◌, ℕ, Bool, true, ◌⊎◌, List, [], ◌∷◌, ◌++◌, Ok, Err, Result, sym, refl, ap, ◌∙◌, subst, ap₂, inl, inr, arith, Some, None, Option, take}
 use Rattle.std.proofs.lemmas.Bool.{eq-eqb}
 use Rattle.memory.specs.State.{size}
 use Rattle.memory.specs.Change.{Change}
@@ -14,7 +14,7 @@ use Rattle.layout.specs.declared.divided.Layout.{Layout}
 use Rattle.rule.specs.Bus.{Plan, Harmless, idle, fills}
 use Rattle.rule.specs.Calls.{Machine, Called, did, Made, whole, cut}
 use Rattle.rule.specs.Command.{Effect, obey}
-use Rattle.rule.specs.Frame.{Verdict, more, wrong, good, judge}
+use Rattle.rule.specs.Frame.{Verdict, good, judge}
 use Rattle.rule.specs.Frames.{Receiver, frames, framed, is_listening, hear, JumpFrame}
 use Rattle.rule.proofs.FramesLaw.{frames_law}
 use Rattle.words.specs.declared.Answer.{Answer}
@@ -25,6 +25,9 @@ use Rattle.words.specs.declared.Success.TheVariants.{Said}
 use Rattle.words.specs.declared.Phase.{Phase}
 use Rattle.words.specs.declared.Phase.TheVariants.{Waiting, Listening}
 use Rattle.words.specs.declared.Refusal.{Refusal}
+use Rattle.receiver.specs.Events.{told, kept}
+use Rattle.receiver.specs.Packet.{packet}
+use Rattle.controller.specs.declared.Controller.{Controller}
 use Rattle.controller.proofs.Ends.{reads_part, err_same, ok_same, ok_not_err, ToldEnd, all, lost, told_end}
 
 within_from : (lo hi : ℕ) (cs : List Change) → Within lo hi cs → Within 0 hi cs
@@ -43,8 +46,17 @@ plan_within c can byte on = by (frames_law.otherwise c can byte on)
     by (inr (idle e _)) = subst (Within 0 (application_place c.layout)) (sym e) tt
     by (inr (fills _ w)) = within_from download_place (application_place c.layout) _ w
 
-module _ {M : Type 0} {make : Make M} (laws : Laws make) (accepts : List ℕ → Bool) (l : Layout) (p : Phase) (f : List ℕ) (byte : ℕ)
-    (m : M) (fit : size (make.state m) ≡ whole_size l) (on : p ≡ Listening) where
+module _ {M : Type 0} {make : Make M} (laws : Laws make) (accepts : List ℕ → Bool) (self : Controller) (byte : ℕ)
+    (m : M) (fit : size (make.state m) ≡ whole_size self.layout) (on : self.phase ≡ Listening) where
+  abbrev l : Layout
+  l = self.layout
+
+  abbrev p : Phase
+  p = self.phase
+
+  abbrev f : List ℕ
+  f = packet self.receiver
+
   abbrev with : Phase → List ℕ → M → Machine (framed accepts make)
   with q g v = record { control = record { layout = l; phase = q; packet = g }; memory = v }
 
@@ -66,40 +78,50 @@ module _ {M : Type 0} {make : Make M} (laws : Laws make) (accepts : List ℕ →
       did (eq-eqb _ _ fit) heard
       (subst (λ (q : Plan (List ℕ) Reply). Made {E = framed accepts make} q.changes (λ _. HostCommand) (with p f m) n o q.next (Ok (Said q.says))) e made)
 
-  -- nothing yet
-  pub goes_on : more ≡ judge (f ++ byte ∷ []) → (g : List ℕ) → g ≡ f ++ byte ∷ [] → Called (Tell byte) (with p f m) (with p g m) (Ok (Said None))
-  goes_on e g is = by_plan (plan_is e) (whole (none refl refl) (ap (λ x. record { layout = l; phase = p; packet = x }) is) refl)
+  -- the receiver has taken the byte, with this result
+  module _ (r : Result (Option ℕ) Answer) (buffer g : List ℕ) (event : told r buffer ≡ judge (f ++ byte ∷ [])) (keeps : g ≡ kept (told r buffer) (f ++ byte ∷ [])) where
+    verdict : {o : Result (Option ℕ) Answer} → r ≡ o → told o buffer ≡ judge (f ++ byte ∷ [])
+    verdict is = sym (ap (λ x. told x buffer) is) ∙ event
 
-  -- an error is answered
-  pub is_wrong : (a : Answer) → wrong a ≡ judge (f ++ byte ∷ []) → (g : List ℕ) → g ≡ [] → Called (Tell byte) (with p f m) (with p g m) (Ok (Said (Some a)))
-  is_wrong a e g is =
-      by_plan (plan_is e) (whole (none refl refl) (ap₂ (λ q x. record { layout = l; phase = q; packet = x }) on is) refl)
+    left : {o : Result (Option ℕ) Answer} → r ≡ o → g ≡ kept (told o buffer) (f ++ byte ∷ [])
+    left is = keeps ∙ ap (λ x. kept (told x buffer) (f ++ byte ∷ [])) is
 
-  -- a command was carried out
-  module _ (payload : List ℕ) (e : good payload ≡ judge (f ++ byte ∷ [])) (n : M) (r : Result Response Refusal)
-      (obeyed : (area : List ℕ) → Reads (make.state m) download_place (application_size l) area → Obeyed make (obey l (startable accepts area) payload) m n r) where
-    abbrev asked : Effect
-    asked = obey l can payload
+    -- nothing yet
+    pub goes_on : r ≡ Ok None → Called (Tell byte) (with p f m) (with p g m) (Ok (Said None))
+    goes_on is = by_plan (plan_is (verdict is)) (whole (none refl refl) (ap (λ x. record { layout = l; phase = p; packet = x }) (left is)) refl)
 
-    end : ToldEnd make asked.changes (λ _. HostCommand) (response asked) m n r
-    end =
-        told_end laws 0 (application_place l)
-        (subst (λ (q : Plan (List ℕ) Reply). Within 0 (application_place l) q.changes) (sym (plan_is e)) (plan_within before can byte heard)) (omega arith)
-        (obeyed (download l (make.state m).bytes) (reads_part (make.state m) download_place (application_size l) (omega arith)))
+    -- an error is answered
+    pub is_wrong : (a : Answer) → r ≡ Err a → Called (Tell byte) (with p f m) (with p g m) (Ok (Said (Some a)))
+    is_wrong a is = by_plan (plan_is (verdict is)) (whole (none refl refl) (ap₂ (λ q x. record { layout = l; phase = q; packet = x }) on (left is)) refl)
 
-    pub replies : (x : Response) → r ≡ Ok x → (g : List ℕ) → g ≡ [] → Called (Tell byte) (with p f m) (with x.phase g n) (Ok (Said (Some x.answer)))
-    replies x is g none' = by end
-      where
-        by : ToldEnd make asked.changes (λ _. HostCommand) (response asked) m n r → Called (Tell byte) (with p f m) (with x.phase g n) (Ok (Said (Some x.answer)))
-        by (all ran told) =
-            let same = ok_same (sym is ∙ told) in
-            by_plan (plan_is e) (whole ran (ap₂ (λ q y. record { layout = l; phase = q; packet = y }) (ap (λ v. v.phase) same) none') (ap (λ v. Ok (Said (Some v.answer))) same))
-        by (lost place ran told) = ok_not_err (sym is ∙ told)
+    -- a command was carried out
+    module _ (n : ℕ) (is : r ≡ Ok (Some n)) (payload : List ℕ) (part : payload ≡ take n buffer) (after : M) (obeyed : Result Response Refusal)
+        (ensures : (area : List ℕ) → Reads (make.state m) download_place (application_size l) area → Obeyed make (obey l (startable accepts area) payload) m after obeyed) where
+      abbrev asked : Effect
+      asked = obey l can payload
 
-    pub is_lost : (d : Refusal) → r ≡ Err d → (g : List ℕ) → g ≡ [] → Called (Tell byte) (with p f m) (with Waiting g n) (Err d)
-    is_lost d is g none' = by end
-      where
-        by : ToldEnd make asked.changes (λ _. HostCommand) (response asked) m n r → Called (Tell byte) (with p f m) (with Waiting g n) (Err d)
-        by (all ran told) = ok_not_err (sym told ∙ is)
-        by (lost place ran told) =
-            by_plan (plan_is e) (cut place ran (ap (λ y. record { layout = l; phase = Waiting; packet = y }) none') (ap Err (err_same (sym is ∙ told))))
+      found : good payload ≡ judge (f ++ byte ∷ [])
+      found = ap good part ∙ verdict is
+
+      end : ToldEnd make asked.changes (λ _. HostCommand) (response asked) m after obeyed
+      end =
+          told_end laws 0 (application_place l)
+          (subst (λ (q : Plan (List ℕ) Reply). Within 0 (application_place l) q.changes) (sym (plan_is found)) (plan_within before can byte heard)) (omega arith)
+          (ensures (download l (make.state m).bytes) (reads_part (make.state m) download_place (application_size l) (omega arith)))
+
+      pub replies : (x : Response) → obeyed ≡ Ok x → Called (Tell byte) (with p f m) (with x.phase g after) (Ok (Said (Some x.answer)))
+      replies x so = by end
+        where
+          by : ToldEnd make asked.changes (λ _. HostCommand) (response asked) m after obeyed → Called (Tell byte) (with p f m) (with x.phase g after) (Ok (Said (Some x.answer)))
+          by (all ran told) =
+              let same = ok_same (sym so ∙ told) in
+              by_plan (plan_is found) (whole ran (ap₂ (λ q y. record { layout = l; phase = q; packet = y }) (ap (λ v. v.phase) same) (left is)) (ap (λ v. Ok (Said (Some v.answer))) same))
+          by (lost place ran told) = ok_not_err (sym so ∙ told)
+
+      pub is_lost : (d : Refusal) → obeyed ≡ Err d → Called (Tell byte) (with p f m) (with Waiting g after) (Err d)
+      is_lost d so = by end
+        where
+          by : ToldEnd make asked.changes (λ _. HostCommand) (response asked) m after obeyed → Called (Tell byte) (with p f m) (with Waiting g after) (Err d)
+          by (all ran told) = ok_not_err (sym told ∙ so)
+          by (lost place ran told) =
+              by_plan (plan_is found) (cut place ran (ap (λ y. record { layout = l; phase = Waiting; packet = y }) (left is)) (ap Err (err_same (sym so ∙ told))))

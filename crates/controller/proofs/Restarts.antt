@@ -49,7 +49,7 @@ module _ {M : Type 0} {make : Make M} (laws : Laws make) (accepts : List ℕ →
       by (all ran told) =
           let fits : size (make.state n) ≡ whole_size l = ran_size laws ran ∙ restored in
           let is = chosen (application l (make.state n).bytes) (reads_part (make.state n) (application_place l) (application_size l) (omega arith)) in
-          by_made (whole ran (ap₂ (λ a b. record { layout = l; phase = a; packet = b }) is none) (ap (λ p. Ok (Ok (Chose p))) is))
+          by_made (whole ran (ap₂ (λ a b. record { layout = l; phase = a; packet = b }) is none) (ap (λ p. Ok (Chose p)) is))
       by (lost place ran told) = ok_not_err told
 
   pub stays_on : Mended make l w n (Ok tt) → (make.state n).on ≡ true

@@ -20,8 +20,8 @@ use image::ImageCheck;
 use layout::Layout;
 use memory::Memory;
 use mending::mend;
-use receiver::{Event, Receiver};
-use words::{Call, Inputs, Outcome, Phase, Refusal, Reply, Turn};
+use receiver::Receiver;
+use words::{Call, Inputs, Outcome, Phase, Refusal, Reply, Success, Turn};
 
 // The password by which an application asks for the host.
 const PASSWORD: u16 = 0xC0DE;
@@ -128,22 +128,22 @@ impl Controller {
         if memory.size() != self.layout.size() {
             return Err(Refusal::WrongSize);
         }
-        let Phase::Listening = self.phase else {
+        if self.phase != Phase::Listening {
             return Err(Refusal::NotListening);
-        };
+        }
         match self.receiver.byte(byte) {
-            Event::Nothing => Ok(Reply::NothingYet),
-            Event::Wrong(answer) => Ok(Reply::Answered(answer)),
-            Event::Frame(n) => match obey::<M, C>(memory, &self.layout, self.receiver.payload(n)) {
+            Ok(None) => Ok(None),
+            Ok(Some(n)) => match obey::<M, C>(memory, &self.layout, self.receiver.payload(n)) {
                 Ok(response) => {
                     self.phase = response.phase;
-                    Ok(Reply::Answered(response.answer))
+                    Ok(Some(response.answer))
                 }
                 Err(refusal) => {
                     self.phase = Phase::Waiting;
                     Err(refusal)
                 }
             },
+            Err(answer) => Ok(Some(answer)),
         }
     }
 
@@ -156,14 +156,8 @@ impl Controller {
         ensures { CalledOn (accepted C.ImageCheck.check) M.Memory.make call self.old memory.old self.new memory.new result }
     {
         match call {
-            Call::Tell(byte) => match self.receive::<M, C>(memory, byte) {
-                Ok(reply) => Outcome::Said(reply),
-                Err(refusal) => Outcome::Refused(refusal),
-            },
-            Call::Restart(inputs) => match self.restart::<M, C>(memory, inputs) {
-                Ok(phase) => Outcome::Chose(phase),
-                Err(refusal) => Outcome::Refused(refusal),
-            },
+            Call::Tell(byte) => self.receive::<M, C>(memory, byte).map(Success::Said),
+            Call::Restart(inputs) => self.restart::<M, C>(memory, inputs).map(Success::Chose),
         }
     }
 }

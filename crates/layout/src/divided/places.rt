@@ -14,10 +14,9 @@ impl Layout {
     pub fn new(k: u8, b: u8) -> Result<Layout, Refusal>
         ensures { numbers result ≡ (if exists k b then Ok (k, b) else Err BadLayout) }
     {
-        if 1 <= k && k <= 48 && 1 <= b && b <= 8 {
-            Ok(Layout { k, b })
-        } else {
-            Err(Refusal::BadLayout)
+        match (k, b) {
+            (1..=48, 1..=8) => Ok(Layout { k, b }),
+            _ => Err(Refusal::BadLayout),
         }
     }
 

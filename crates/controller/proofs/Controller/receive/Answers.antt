@@ -1,36 +1,27 @@
-use Rattle.std.proofs.Common.{sym, ap, ◌∙◌}
+use Rattle.std.proofs.Common.{Ok, ap, ◌∙◌, rules}
 use Rattle.image.specs.Check.{accepted}
 use Rattle.receiver.specs.Packet.{packet}
-use Rattle.rule.specs.Frame.{good}
 use Rattle.controller.proofs.Receives.{goes_on, is_wrong, replies, is_lost}
 use Rattle.controller.proofs.Controller.receive.Goals as goal
 
-pub returns-in-Nothing : goal.returns-in-Nothing
-returns-in-Nothing g c =
-    let self = c.args.self.now in
-    goes_on g.M.Memory.laws (accepted g.C.ImageCheck.check) self.layout self.phase (packet self.receiver) c.args.byte c.args.memory.now
-    (sym c.size.ensures ∙ c.if-size.false ∙ c.size-2.ensures) c.in-Listening.is
-    c.in-Nothing.ensures.event (packet c.byte.new.self) c.in-Nothing.ensures.keeps
-
-pub returns-in-Wrong : goal.returns-in-Wrong
-returns-in-Wrong g c =
-    let self = c.args.self.now in
-    is_wrong g.M.Memory.laws (accepted g.C.ImageCheck.check) self.layout self.phase (packet self.receiver) c.args.byte c.args.memory.now
-    (sym c.size.ensures ∙ c.if-size.false ∙ c.size-2.ensures) c.in-Listening.is
-    c.in-Wrong.answer c.in-Wrong.ensures.event (packet c.byte.new.self) c.in-Wrong.ensures.keeps
-
-pub returns-in-Ok : goal.returns-in-Ok
-returns-in-Ok g c =
-    let self = c.args.self.now in
-    replies g.M.Memory.laws (accepted g.C.ImageCheck.check) self.layout self.phase (packet self.receiver) c.args.byte c.args.memory.now
-    (sym c.size.ensures ∙ c.if-size.false ∙ c.size-2.ensures) c.in-Listening.is
-    c.payload.result.now (ap good c.payload.ensures ∙ c.in-Frame.ensures.event) c.obey.new.memory c.obey.result c.obey.ensures
-    c.in-Ok.response c.in-Ok.is (packet c.byte.new.self) c.in-Frame.ensures.keeps
+pub returns-in-Ok-None : goal.returns-in-Ok-None
+returns-in-Ok-None g c =
+    goes_on g.M.Memory.laws (accepted g.C.ImageCheck.check) c.args.self.now c.args.byte c.args.memory.now (search rules) (search rules)
+    c.byte.result c.byte.new.self.buffer (packet c.byte.new.self) c.byte.ensures.event c.byte.ensures.keeps (c.in-Ok-None.is ∙ ap Ok c.in-Ok-None.field-0-is)
 
 pub returns-in-Err : goal.returns-in-Err
 returns-in-Err g c =
-    let self = c.args.self.now in
-    is_lost g.M.Memory.laws (accepted g.C.ImageCheck.check) self.layout self.phase (packet self.receiver) c.args.byte c.args.memory.now
-    (sym c.size.ensures ∙ c.if-size.false ∙ c.size-2.ensures) c.in-Listening.is
-    c.payload.result.now (ap good c.payload.ensures ∙ c.in-Frame.ensures.event) c.obey.new.memory c.obey.result c.obey.ensures
-    c.in-Err.refusal c.in-Err.is (packet c.byte.new.self) c.in-Frame.ensures.keeps
+    is_wrong g.M.Memory.laws (accepted g.C.ImageCheck.check) c.args.self.now c.args.byte c.args.memory.now (search rules) (search rules)
+    c.byte.result c.byte.new.self.buffer (packet c.byte.new.self) c.byte.ensures.event c.byte.ensures.keeps c.in-Err.answer c.in-Err.is
+
+pub returns-in-Ok : goal.returns-in-Ok
+returns-in-Ok g c =
+    replies g.M.Memory.laws (accepted g.C.ImageCheck.check) c.args.self.now c.args.byte c.args.memory.now (search rules) (search rules)
+    c.byte.result c.byte.new.self.buffer (packet c.byte.new.self) c.byte.ensures.event c.byte.ensures.keeps c.in-Ok-Some.n (c.in-Ok-Some.is ∙ ap Ok c.in-Ok-Some.field-0-is)
+    c.payload.result.now c.payload.ensures c.obey.new.memory c.obey.result c.obey.ensures c.in-Ok.response c.in-Ok.is
+
+pub returns-in-Err-obey : goal.returns-in-Err-obey
+returns-in-Err-obey g c =
+    is_lost g.M.Memory.laws (accepted g.C.ImageCheck.check) c.args.self.now c.args.byte c.args.memory.now (search rules) (search rules)
+    c.byte.result c.byte.new.self.buffer (packet c.byte.new.self) c.byte.ensures.event c.byte.ensures.keeps c.in-Ok-Some.n (c.in-Ok-Some.is ∙ ap Ok c.in-Ok-Some.field-0-is)
+    c.payload.result.now c.payload.ensures c.obey.new.memory c.obey.result c.obey.ensures c.in-Err-obey.refusal c.in-Err-obey.is
