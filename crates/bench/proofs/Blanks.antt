@@ -16,8 +16,8 @@ use Rattle.controller.specs.Playing.{Run}
 use Rattle.controller.specs.declared.Controller.{Controller}
 use Rattle.controller.proofs.Ends.{ok_not_err}
 use Rattle.words.specs.declared.Refusal.{Refusal}
-use Rattle.words.specs.declared.Reply.{Reply}
 use Rattle.words.specs.declared.Turn.{Turn}
+use Rattle.words.specs.Outcomes.{Reply}
 use Rattle.bench.specs.Told.{Blank, Benched}
 
 -- a part of the largest blank memory

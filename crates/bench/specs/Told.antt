@@ -19,10 +19,9 @@ use Rattle.controller.specs.Playing.{Played, started}
 use Rattle.script.specs.Whole.{Said}
 use Rattle.script.specs.declared.Kind.{Kind}
 use Rattle.script.specs.declared.Kind.TheVariants.{Flash, Fram}
-use Rattle.words.specs.declared.Outcome.TheVariants.{Refused}
 use Rattle.words.specs.declared.Refusal.{Refusal}
-use Rattle.words.specs.declared.Reply.{Reply}
 use Rattle.words.specs.declared.Turn.{Turn}
+use Rattle.words.specs.Outcomes.{Reply}
 
 -- a new simulated memory: so many bytes, all 0xFF, and these cuts, none of them counted yet
 pub record Blank {C : Type 0} (count : ℕ) (cuts : List Cut) (m : Simulated C) : Type 0 where
@@ -58,4 +57,4 @@ pub record Lines (said : Said) (out : List ℕ) : Type 0 where
 -- what is written for an input, or for one that is refused
 abbrev pub Told : Result Said Refusal → List ℕ → Type 0
 Told (Ok said) out = Lines said out
-Told (Err why) out = out ≡ line_bytes 0 (Refused why)
+Told (Err why) out = out ≡ line_bytes 0 (Err why)

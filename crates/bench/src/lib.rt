@@ -12,7 +12,7 @@ use memory::Memory;
 use models::{Cells, Cut, FlashCells, FramCells, Simulated};
 use script::{Kind, Script, Stop};
 use std::alloc::{AllocError, Global};
-use words::{Outcome, Reply, Turn};
+use words::{Reply, Turn};
 
 // The bytes of the largest layout.
 const LARGEST: usize = 53760;
@@ -26,13 +26,16 @@ pub fn play<C: Cells>(layout: Layout, cuts: &[Cut], turns: &mut [Turn<u8, Reply>
     let _ = run::<Simulated<C>, CcittCheck>(&mut memory, layout, turns);
 }
 
-// The same, over a memory of some kind.
-fn play_on(kind: Kind, layout: Layout, cuts: &[Cut], turns: &mut [Turn<u8, Reply>])
-    ensures { BenchedOn kind layout cuts.now turns.old turns.new }
+// Plays the turns of a script, over a memory of its kind. The kind comes with the input, so a match turns it into a type.
+fn play_script(script: &mut Script)
+    ensures turns { BenchedOn script.old.kind script.old.layout script.old.cuts.items script.old.turns.items script.new.turns.items }
+    ensures ending { script.new.ending ≡ script.old.ending }
 {
-    match kind {
-        Kind::Flash => play::<FlashCells>(layout, cuts, turns),
-        Kind::Fram => play::<FramCells>(layout, cuts, turns),
+    let cuts = script.cuts.as_slice();
+    let turns = script.turns.as_mut_slice();
+    match script.kind {
+        Kind::Flash => play::<FlashCells>(script.layout, cuts, turns),
+        Kind::Fram => play::<FramCells>(script.layout, cuts, turns),
     }
 }
 
@@ -41,23 +44,15 @@ pub fn tell(heap: Global, input: &[u8]) -> Result<Vec<u8>, AllocError>
     ensures { IfOk result (λ v. Told (the_script input.now) v.items) }
 {
     match script::read(heap, input) {
-        Ok(
-            Script {
-                layout,
-                kind,
-                cuts,
-                mut turns,
-                ending,
-            },
-        ) => {
-            play_on(kind, layout, cuts.as_slice(), turns.as_mut_slice());
-            line::lines(heap, turns.as_slice(), ending)
+        Ok(mut script) => {
+            play_script(&mut script);
+            line::lines(heap, script.turns.as_slice(), script.ending)
         }
         Err(Stop::Refused(why)) => {
             let mut bytes = Vec::new(heap);
-            line::append(&mut bytes, 0, Outcome::Refused(why))?;
+            line::append(&mut bytes, 0, Err(why))?;
             Ok(bytes)
         }
-        Err(Stop::OutOfMemory) => Err(AllocError),
+        Err(Stop::OutOfMemory(full)) => Err(full),
     }
 }

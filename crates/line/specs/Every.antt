@@ -1,10 +1,8 @@
 -- The lines of a script that was played.
-use Rattle.std.specs.Prelude.{ℕ, ◌+◌, List, [], ◌∷◌, ◌++◌, Some, None, Option}
-use Rattle.words.specs.declared.Outcome.{Outcome}
-use Rattle.words.specs.declared.Outcome.TheVariants.{Refused}
+use Rattle.std.specs.Prelude.{ℕ, ◌+◌, List, [], ◌∷◌, ◌++◌, Some, None, Option, Err}
 use Rattle.words.specs.declared.Refusal.TheVariants.{MalformedInput}
-use Rattle.words.specs.declared.Reply.{Reply}
 use Rattle.words.specs.declared.Turn.{Turn}
+use Rattle.words.specs.Outcomes.{Outcome, Reply}
 use Rattle.script.specs.declared.Ending.{Ending}
 use Rattle.script.specs.declared.Ending.TheVariants.{Whole, Malformed}
 use Rattle.line.specs.One.{line_bytes}
@@ -12,7 +10,7 @@ use Rattle.line.specs.One.{line_bytes}
 -- after the last turn: nothing, or the refusal of an input that ends malformed
 abbrev pub last_line : ℕ → Ending → List ℕ
 last_line number Whole = []
-last_line number Malformed = line_bytes number (Refused MalformedInput)
+last_line number Malformed = line_bytes number (Err MalformedInput)
 
 -- the line of a turn that was played, and those after it; a turn that was not played ends them
 abbrev pub then_lines : ℕ → Option (Outcome Reply) → List ℕ → List ℕ

@@ -1,8 +1,7 @@
 // The lines that a bench writes: how each event of its script came out.
 #![tactic(auto)]
 
-ghost use Rattle.std.specs.Prelude.{◌≡◌, ◌%◌, [], ◌∷◌, ◌++◌, IfOk, Some, decimal, OnOk};
-ghost use Rattle.hex_digits.specs.Digits.{digit as the_digit};
+ghost use Rattle.std.specs.Prelude.{◌≡◌, ◌++◌, IfOk, Some, OnOk, encode_utf8};
 ghost use Rattle.line.specs.One.{letter as the_letter, value as the_value, line_bytes};
 ghost use Rattle.line.specs.Every.{lines_from};
 
@@ -10,19 +9,19 @@ use hex_digits::HexByte;
 use script::Ending;
 use std::alloc::{AllocError, Global};
 use std::fmt;
-use words::{Outcome, Phase, Refusal, Reply, Turn};
+use words::{Outcome, Phase, Refusal, Reply, Success, Turn};
 
 // The letter that says how an event came out. No restart chooses to wait.
-fn letter(outcome: Outcome<Reply>) -> u8
-    ensures { result ∷ [] ≡ the_letter outcome }
+fn letter(outcome: Outcome<Reply>) -> char
+    ensures { encode_utf8 result ≡ the_letter outcome }
 {
     match outcome {
-        Outcome::Said(Reply::NothingYet) => b'N',
-        Outcome::Said(Reply::Answered(_)) => b'A',
-        Outcome::Chose(Phase::Waiting) => b'W',
-        Outcome::Chose(Phase::Listening) => b'L',
-        Outcome::Chose(Phase::Running) => b'S',
-        Outcome::Refused(_) => b'R',
+        Ok(Success::Said(None)) => 'N',
+        Ok(Success::Said(Some(_))) => 'A',
+        Ok(Success::Chose(Phase::Waiting)) => 'W',
+        Ok(Success::Chose(Phase::Listening)) => 'L',
+        Ok(Success::Chose(Phase::Running)) => 'S',
+        Err(_) => 'R',
     }
 }
 
@@ -31,21 +30,14 @@ fn value(outcome: Outcome<Reply>) -> u8
     ensures { result ≡ the_value outcome }
 {
     match outcome {
-        Outcome::Said(Reply::Answered(answer)) => answer.byte(),
-        Outcome::Refused(why) => why.number(),
-        Outcome::Said(Reply::NothingYet) | Outcome::Chose(_) => 0,
+        Ok(Success::Said(Some(answer))) => answer.into(),
+        Ok(Success::Said(None) | Success::Chose(_)) => 0,
+        Err(why) => why.number(),
     }
 }
 
-// The byte of a hexadecimal digit.
-fn digit(nibble: u8) -> u8
-    ensures { result ≡ the_digit (nibble % 16) }
-{
-    hex_digits::digit(nibble) as u8
-}
-
 // The number of an event, and how it came out.
-#[derive(Clone, Copy)]
+#[derive(Clone, Copy, Debug, PartialEq, Eq)]
 pub struct Line {
     pub number: usize,
     pub outcome: Outcome<Reply>,
@@ -56,38 +48,18 @@ impl fmt::Display for Line {
 
     fn fmt<W: fmt::Write>(&self, f: &mut fmt::Formatter<W>) -> fmt::Result {
         let number = self.number;
-        let letter = char::from(letter(self.outcome));
+        let letter = letter(self.outcome);
         let value = HexByte(value(self.outcome));
-        write!(f, "{number} {letter} {value}\n")
+        writeln!(f, "{number} {letter} {value}")
     }
 }
 
-// Appends the decimal digits of a number.
-fn append_decimal(bytes: &mut Vec<u8>, number: usize) -> Result<(), AllocError>
-    ensures { OnOk result (bytes.new.items ≡ bytes.old.items ++ decimal number) }
-{
-    if number >= 10 {
-        append_decimal(bytes, number / 10)?;
-    }
-    bytes.push(b'0' + (number % 10) as u8)?;
-    Ok(())
-}
-
-// Appends the line of an event. Where memory is wanting, a part of the line may have been appended.
+// Appends the line of an event.
 pub fn append(bytes: &mut Vec<u8>, number: usize, outcome: Outcome<Reply>) -> Result<(), AllocError>
     ensures { OnOk result (bytes.new.items ≡ bytes.old.items ++ line_bytes number outcome) }
 {
-    append_decimal(bytes, number)?;
-    let value = value(outcome);
-    bytes.extend_from_slice(&[
-        b' ',
-        letter(outcome),
-        b' ',
-        digit(value / 16),
-        digit(value),
-        b'\n',
-    ])?;
-    Ok(())
+    let line = Line { number, outcome }.to_string(*bytes.allocator())?;
+    bytes.extend_from_slice(line.as_bytes())
 }
 
 // The lines of a script that was played: one for each turn, up to the first that was not played, and one for a malformed ending.
@@ -95,20 +67,14 @@ pub fn lines(heap: Global, turns: &[Turn<u8, Reply>], ending: Ending) -> Result<
     ensures { IfOk result (λ v. v.items ≡ lines_from 1 turns.now ending) }
 {
     let mut bytes = Vec::new(heap);
-    let mut number = 1;
-    for turn in turns {
+    for (index, turn) in turns.iter().enumerate() {
         let Some(outcome) = turn.outcome else {
             return Ok(bytes);
         };
-        append(&mut bytes, number, outcome)?;
-        number += 1;
+        append(&mut bytes, index + 1, outcome)?;
     }
     if let Ending::Malformed = ending {
-        append(
-            &mut bytes,
-            number,
-            Outcome::Refused(Refusal::MalformedInput),
-        )?;
+        append(&mut bytes, turns.len() + 1, Err(Refusal::MalformedInput))?;
     }
     Ok(bytes)
 }

@@ -1,9 +1,9 @@
 -- What the sections of an input say, one after another.
-use Rattle.std.proofs.Common.{◌≡◌, ℕ, ◌*◌, ◌≤◌, Bool, true, false, cond, ◌&&◌, leb, List, length, drop, Some, Ok, Err, Result, sym, refl, ap, ◌∙◌, arith}
+use Rattle.std.proofs.Common.{◌≡◌, ℕ, ◌*◌, ◌≤◌, Bool, true, false, cond, ◌&&◌, leb, List, length, drop, Option, Some, None, Ok, Err, Result, ok_or, sym, refl, ap, ◌∙◌, arith}
 use Rattle.std.proofs.lemmas.Bool.{cond-true, le-leb, eq-eqb, and_from}
 use Rattle.models.specs.declared.simulated.Cut.{Cut}
 use Rattle.words.specs.declared.Turn.{Turn}
-use Rattle.words.specs.declared.Reply.{Reply}
+use Rattle.words.specs.Outcomes.{Reply}
 use Rattle.words.specs.declared.Refusal.{Refusal}
 use Rattle.words.specs.declared.Refusal.TheVariants.{BadLayout, MalformedInput}
 use Rattle.layout.specs.Areas.{exists}
@@ -56,3 +56,7 @@ script_at bytes rest kind h three is d =
     cond-true _ _ _ (and_from _ _ (le-leb _ _ h) (eq-eqb _ _ three))
     ∙ (ap (λ o. with_kind o (λ v. from_cuts (at bytes 1) (at bytes 2) v (drop 4 bytes))) is
     ∙ ap (λ (l : List ℕ). from_cuts (at bytes 1) (at bytes 2) kind l) d)
+
+pub kind_is : (o : Option Kind) (kind : Kind) → Ok kind ≡ ok_or o MalformedInput → o ≡ Some kind
+kind_is None kind e = absurd (cc e)
+kind_is (Some other) kind e = cc

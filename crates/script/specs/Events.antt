@@ -3,7 +3,7 @@ use Rattle.std.specs.Prelude.{ℕ, zero, suc, cond, ◌&&◌, List, [], ◌∷�
 use Rattle.words.specs.declared.Call.{Call}
 use Rattle.words.specs.declared.Call.TheVariants.{Tell, Restart}
 use Rattle.words.specs.declared.Turn.{Turn}
-use Rattle.words.specs.declared.Reply.{Reply}
+use Rattle.words.specs.Outcomes.{Reply}
 use Rattle.script.specs.declared.Ending.{Ending}
 use Rattle.script.specs.declared.Ending.TheVariants.{Whole, Malformed}
 use Rattle.script.specs.Numbers.{at, word}

@@ -1,5 +1,6 @@
 -- What a script holds, and what a reading gives.
-use Rattle.std.specs.Prelude.{◌≡◌, ℕ, ◌*◌, ◌<◌, ◌≤◌, List, length, Ok, Err, vec_items, Result, Vec}
+use Rattle.std.specs.Prelude.{◌≡◌, ℕ, ◌*◌, ◌<◌, ◌≤◌, List, length, drop, Ok, Err, vec_items, Result, Vec}
+use Rattle.std.specs.Borrow.{Bor}
 use Rattle.std.specs.declared.alloc.Global.{Global}
 use Rattle.models.specs.declared.simulated.Cut.{Cut}
 use Rattle.words.specs.declared.Refusal.{Refusal}
@@ -7,6 +8,7 @@ use Rattle.words.specs.declared.Refusal.TheVariants.{MalformedInput}
 use Rattle.script.specs.declared.Script.{Script}
 use Rattle.script.specs.declared.Stop.{Stop}
 use Rattle.script.specs.declared.Stop.TheVariants.{Refused, OutOfMemory}
+use Rattle.script.specs.Numbers.{word}
 use Rattle.script.specs.Cuts.{cuts}
 use Rattle.script.specs.Whole.{Said}
 
@@ -25,10 +27,15 @@ held s = record {
 abbrev pub Gives : Result Script Stop → Result Said Refusal → Type 0
 Gives (Ok s) input = input ≡ Ok (held s)
 Gives (Err (Refused why)) input = input ≡ Err why
-Gives (Err OutOfMemory) input = Unit {0}
+Gives (Err (OutOfMemory full)) input = Unit {0}
+
+-- a count of 16 bits and the bytes after it, where there are two bytes
+abbrev pub GivesCount : Result (ℕ × Bor (List ℕ)) Refusal → List ℕ → Type 0
+GivesCount (Ok p) bytes = (2 ≤ length bytes) × (p.0 ≡ word bytes 0) × (p.1.now ≡ drop 2 bytes)
+GivesCount (Err why) bytes = (length bytes < 2) × (why ≡ MalformedInput)
 
 -- so many cuts, where there are bytes enough
 abbrev pub GivesCuts : Result (Vec Cut Global) Stop → ℕ → List ℕ → Type 0
 GivesCuts (Ok v) count bytes = (6 * count ≤ length bytes) × (vec_items v ≡ cuts count bytes)
 GivesCuts (Err (Refused why)) count bytes = (length bytes < 6 * count) × (why ≡ MalformedInput)
-GivesCuts (Err OutOfMemory) count bytes = Unit {0}
+GivesCuts (Err (OutOfMemory full)) count bytes = Unit {0}

@@ -2,7 +2,7 @@
 use Rattle.std.specs.Prelude.{ℕ, ◌*◌, cond, ◌&&◌, List, length, drop, Some, None, Ok, Err, Option, Result, ◌==◌, nat_le}
 use Rattle.models.specs.declared.simulated.Cut.{Cut}
 use Rattle.words.specs.declared.Turn.{Turn}
-use Rattle.words.specs.declared.Reply.{Reply}
+use Rattle.words.specs.Outcomes.{Reply}
 use Rattle.words.specs.declared.Refusal.{Refusal}
 use Rattle.words.specs.declared.Refusal.TheVariants.{BadLayout, MalformedInput}
 use Rattle.layout.specs.Areas.{exists}

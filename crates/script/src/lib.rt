@@ -1,29 +1,45 @@
 // The input of a bench: the layout and the kind of a memory, the cuts of its supply, and the calls to make.
 #![tactic(auto)]
 
-ghost use Rattle.std.specs.Prelude.{◌≡◌, IfOk};
+ghost use Rattle.std.specs.Prelude.{◌≡◌, map, IfOk, ok_or};
 ghost use Rattle.script.specs.declared.Stop.TheVariants.{Refused as Declined, OutOfMemory};
+ghost use Rattle.script.specs.Cuts.{cut as the_cut};
 ghost use Rattle.script.specs.Events.{event as the_event, events as the_events};
-ghost use Rattle.script.specs.Held.{Gives, GivesCuts};
-ghost use Rattle.script.specs.Whole.{kind_of as the_kind, from_events, from_cuts, script as the_script};
+ghost use Rattle.script.specs.Held.{Gives, GivesCount, GivesCuts};
+ghost use Rattle.script.specs.Whole.{kind_of, script as the_script};
+ghost use Rattle.words.specs.declared.Refusal.TheVariants.{MalformedInput};
 
 use layout::Layout;
 use models::Cut;
-use std::alloc::{AllocError, AllocFailed, Global};
+use std::alloc::{AllocError, Global};
 use words::{Call, Inputs, Refusal, Reply, Turn};
 
 // A script has so many cuts at most.
 const MOST_CUTS: u16 = 64;
 
 // What the memory is made of.
-#[derive(Clone, Copy)]
+#[derive(Clone, Copy, Debug, PartialEq, Eq)]
 pub enum Kind {
     Flash,
     Fram,
 }
 
+impl TryFrom<u8> for Kind {
+    type Error = Refusal;
+
+    ghost try_from_gives = { λ number r. r ≡ ok_or (kind_of number) MalformedInput };
+
+    fn try_from(number: u8) -> Result<Kind, Refusal> {
+        match number {
+            0 => Ok(Kind::Flash),
+            1 => Ok(Kind::Fram),
+            _ => Err(Refusal::MalformedInput),
+        }
+    }
+}
+
 // Whether the events are all there, or end before one that is malformed or missing.
-#[derive(Clone, Copy)]
+#[derive(Clone, Copy, Debug, PartialEq, Eq)]
 pub enum Ending {
     Whole,
     Malformed,
@@ -39,10 +55,10 @@ pub struct Script {
 }
 
 // Why there is no script.
-#[derive(Clone, Copy)]
+#[derive(Clone, Copy, Debug, PartialEq, Eq)]
 pub enum Stop {
     Refused(Refusal),
-    OutOfMemory,
+    OutOfMemory(AllocError),
 }
 
 impl From<Refusal> for Stop {
@@ -54,32 +70,63 @@ impl From<Refusal> for Stop {
 }
 
 impl From<AllocError> for Stop {
-    ghost from_gives = { λ _ r. r ≡ OutOfMemory };
+    ghost from_gives = { λ full r. r ≡ OutOfMemory full };
 
-    fn from(_e: AllocError) -> Stop {
-        Stop::OutOfMemory
+    fn from(full: AllocError) -> Stop {
+        Stop::OutOfMemory(full)
     }
 }
 
-impl<T: Drop> From<AllocFailed<T>> for Stop {
-    ghost from_gives = { λ _ r. r ≡ OutOfMemory };
+// A count of 16 bits, the low byte first, and the bytes after it.
+fn counted(bytes: &[u8]) -> Result<(u16, &[u8]), Refusal>
+    ensures { GivesCount result bytes.now }
+{
+    let (count, rest) = bytes
+        .split_first_chunk::<2>()
+        .ok_or(Refusal::MalformedInput)?;
+    Ok((u16::from_le_bytes(*count), rest))
+}
 
-    fn from(_e: AllocFailed<T>) -> Stop {
-        Stop::OutOfMemory
+// Six bytes are a cut: how many changes it lets finish, and the pattern of the one that it tears.
+fn cut(bytes: &[u8; 6]) -> Cut
+    ensures { result ≡ the_cut bytes.now }
+{
+    let [a, b, c, d, low, high] = *bytes;
+    Cut {
+        count: u32::from_le_bytes([a, b, c, d]),
+        pattern: u16::from_le_bytes([low, high]),
     }
 }
 
-// Five bytes from the first up are an event: a restart, or a byte that was received.
-fn event(bytes: &[u8]) -> Option<Call<u8>>
+// A cut for each six bytes.
+fn each_cut(heap: Global, pieces: &[[u8; 6]]) -> Result<Vec<Cut>, AllocError>
+    ensures { IfOk result (λ v. v.items ≡ map the_cut pieces.now) }
+{
+    pieces.iter().map(cut).collect(heap)
+}
+
+// So many cuts, one after another.
+fn cuts(heap: Global, count: u16, bytes: &[u8]) -> Result<Vec<Cut>, Stop>
+    ensures { GivesCuts result count bytes.now }
+{
+    let (pieces, _) = bytes.as_chunks::<6>();
+    let pieces = pieces
+        .get(..usize::from(count))
+        .ok_or(Refusal::MalformedInput)?;
+    Ok(each_cut(heap, pieces)?)
+}
+
+// Five bytes are an event, where they are well formed: a restart, or a byte that was received.
+fn event(bytes: &[u8; 5]) -> Option<Call<u8>>
     ensures { result ≡ the_event bytes.now }
 {
-    match bytes {
-        [0, pin @ 0..=1, low, high, status, ..] => Some(Call::Restart(Inputs {
-            pin_high: *pin == 1,
-            password: u16::from_le_bytes([*low, *high]),
-            status: *status,
+    match *bytes {
+        [0, pin @ 0..=1, low, high, status] => Some(Call::Restart(Inputs {
+            pin_high: pin == 1,
+            password: u16::from_le_bytes([low, high]),
+            status,
         })),
-        [1, byte, 0, 0, 0, ..] => Some(Call::Tell(*byte)),
+        [1, byte, 0, 0, 0] => Some(Call::Tell(byte)),
         _ => None,
     }
 }
@@ -92,89 +139,22 @@ fn events(
 ) -> Result<(Vec<Turn<u8, Reply>>, Ending), AllocError>
     ensures { IfOk result (λ p. the_events count bytes.now ≡ (p.0.items, p.1)) }
 {
-    let mut turns = Vec::new(heap);
-    let mut rest = bytes;
-    for _ in 0..count {
-        let Some(call) = event(rest) else {
-            return Ok((turns, Ending::Malformed));
-        };
-        turns.push(Turn {
+    let (pieces, _) = bytes.as_chunks::<5>();
+    let turns: Vec<Turn<u8, Reply>> = pieces
+        .iter()
+        .take(usize::from(count))
+        .map_while(|piece| event(piece))
+        .map(|call| Turn {
             call,
             outcome: None,
-        })?;
-        rest = &rest[5..];
-    }
-    Ok((turns, Ending::Whole))
-}
-
-// So many cuts of six bytes each.
-fn cuts(heap: Global, count: u16, bytes: &[u8]) -> Result<Vec<Cut>, Stop>
-    ensures { GivesCuts result count bytes.now }
-{
-    let mut cuts = Vec::new(heap);
-    let mut rest = bytes;
-    for _ in 0..count {
-        let [a, b, c, d, low, high, after @ ..] = rest else {
-            return Err(Stop::Refused(Refusal::MalformedInput));
-        };
-        cuts.push(Cut {
-            count: u32::from_le_bytes([*a, *b, *c, *d]),
-            pattern: u16::from_le_bytes([*low, *high]),
-        })?;
-        rest = after;
-    }
-    Ok(cuts)
-}
-
-// The kind of a number.
-fn kind_of(number: u8) -> Option<Kind>
-    ensures { result ≡ the_kind number }
-{
-    match number {
-        0 => Some(Kind::Flash),
-        1 => Some(Kind::Fram),
-        _ => None,
-    }
-}
-
-// The events come after the cuts.
-fn read_events(
-    heap: Global,
-    layout: Layout,
-    kind: Kind,
-    cuts: Vec<Cut>,
-    bytes: &[u8],
-) -> Result<Script, Stop>
-    ensures { Gives result (from_events layout.k layout.b kind cuts.items bytes.now) }
-{
-    let [low, high, rest @ ..] = bytes else {
-        return Err(Stop::Refused(Refusal::MalformedInput));
+        })
+        .collect(heap)?;
+    let ending = if turns.len() == usize::from(count) {
+        Ending::Whole
+    } else {
+        Ending::Malformed
     };
-    let count = u16::from_le_bytes([*low, *high]);
-    let (turns, ending) = events(heap, count, rest)?;
-    Ok(Script {
-        layout,
-        kind,
-        cuts,
-        turns,
-        ending,
-    })
-}
-
-// The cuts come after the first section.
-fn read_cuts(heap: Global, k: u8, b: u8, kind: Kind, bytes: &[u8]) -> Result<Script, Stop>
-    ensures { Gives result (from_cuts k b kind bytes.now) }
-{
-    let [low, high, rest @ ..] = bytes else {
-        return Err(Stop::Refused(Refusal::MalformedInput));
-    };
-    let count = u16::from_le_bytes([*low, *high]);
-    if count > MOST_CUTS {
-        return Err(Stop::Refused(Refusal::MalformedInput));
-    }
-    let cuts = cuts(heap, count, rest)?;
-    let layout = Layout::new(k, b)?;
-    read_events(heap, layout, kind, cuts, &rest[6 * usize::from(count)..])
+    Ok((turns, ending))
 }
 
 // Reads a whole input.
@@ -184,8 +164,20 @@ pub fn read(heap: Global, input: &[u8]) -> Result<Script, Stop>
     let [3, k, b, kind, rest @ ..] = input else {
         return Err(Stop::Refused(Refusal::MalformedInput));
     };
-    let Some(kind) = kind_of(*kind) else {
+    let kind = Kind::try_from(*kind)?;
+    let (count, rest) = counted(rest)?;
+    if count > MOST_CUTS {
         return Err(Stop::Refused(Refusal::MalformedInput));
-    };
-    read_cuts(heap, *k, *b, kind, rest)
+    }
+    let cuts = cuts(heap, count, rest)?;
+    let layout = Layout::new(*k, *b)?;
+    let (count, rest) = counted(&rest[6 * usize::from(count)..])?;
+    let (turns, ending) = events(heap, count, rest)?;
+    Ok(Script {
+        layout,
+        kind,
+        cuts,
+        turns,
+        ending,
+    })
 }

@@ -1,9 +1,6 @@
-use Rattle.std.proofs.Common.{◌≡◌, ◌+◌, ◌*◌, ◌≤◌, ◌++◌, drop, vec_items, vec_len}
+use Rattle.std.proofs.Common.{◌≡◌, ◌+◌, ◌++◌, drop, vec_items}
 use Rattle.line.specs.Every.{lines_from}
 use Rattle.line.proofs.lines.Given as goal
 
-abbrev pub invariant-loop-turn : goal.invariant-loop-turn
-invariant-loop-turn l =
-    (vec_items l.bytes ++ lines_from l.number (drop l.turn-index l.turns) l.ending ≡ lines_from 1 l.turns l.ending)
-    × (l.number ≡ l.turn-index + 1)
-    × (2 * l.turn-index ≤ vec_len l.bytes)
+abbrev pub invariant-loop-index : goal.invariant-loop-index
+invariant-loop-index l = vec_items l.bytes ++ lines_from (l.index + 1) (drop l.index l.turns) l.ending ≡ lines_from 1 l.turns l.ending

@@ -1,3 +1,0 @@
-mod Letters
-mod Tail
-mod Steps
