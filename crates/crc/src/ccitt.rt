@@ -31,7 +31,7 @@ const TABLE: [u16; 256] = [
 
 const START: u16 = 0xFFFF;
 
-#[derive(Drop)]
+#[derive(Clone, Copy, Debug)]
 pub struct CrcCcitt;
 
 impl Checksum for CrcCcitt {

@@ -25,7 +25,7 @@ const TABLE: [u8; 256] = [
 
 const START: u8 = 0;
 
-#[derive(Drop)]
+#[derive(Clone, Copy, Debug)]
 pub struct Crc8;
 
 impl Checksum for Crc8 {
@@ -39,6 +39,7 @@ impl Checksum for Crc8 {
         START
     }
 
+    // Not one function with CRC-CCITT's: a shift by eight, which that one needs beside its table, is none of a byte's.
     fn step(register: u8, byte: u8) -> u8 {
         TABLE[(register ^ byte) as usize]
     }

@@ -29,11 +29,10 @@ pub trait Checksum {
 pub fn sum<S: Checksum>(bytes: &[u8]) -> S::Register
     ensures { result ≡ fold S.Checksum.steps S.Checksum.starts bytes.now }
 {
-    let mut register = S::start();
-    for byte in bytes {
-        register = S::step(register, *byte);
-    }
-    register
+    bytes
+        .iter()
+        .copied()
+        .fold(S::start(), |register, byte| S::step(register, byte))
 }
 
 // The register's laws, at every width: linear over XOR, and what becomes of its low part.

@@ -19,30 +19,29 @@ pub fn digit(nibble: u8) -> char
 }
 
 // A byte, written as two digits.
-#[derive(Clone, Copy)]
+#[derive(Clone, Copy, Debug, PartialEq, Eq)]
 pub struct HexByte(pub u8);
 
 impl fmt::Display for HexByte {
     ghost output = { λ x. Some (byte_digits x.0) };
 
+    #[tactic(auto, using(std::proofs::lemmas::Fmt::hex_byte))]
     fn fmt<W: fmt::Write>(&self, f: &mut fmt::Formatter<W>) -> fmt::Result {
-        let high = digit(self.0 / 16);
-        let low = digit(self.0);
-        write!(f, "{high}{low}")
+        let byte = self.0;
+        write!(f, "{byte:02X}")
     }
 }
 
-// A number of 16 bits, written as four digits.
-#[derive(Clone, Copy)]
+// A number of 16 bits, written as four digits. No one type for both: only a trait with the digits and the width of each would be longer.
+#[derive(Clone, Copy, Debug, PartialEq, Eq)]
 pub struct HexWord(pub u16);
 
 impl fmt::Display for HexWord {
     ghost output = { λ x. Some (word_digits x.0) };
 
+    #[tactic(auto, using(crate::proofs::Padded::word_padded))]
     fn fmt<W: fmt::Write>(&self, f: &mut fmt::Formatter<W>) -> fmt::Result {
-        let [high, low] = self.0.to_be_bytes();
-        let high = HexByte(high);
-        let low = HexByte(low);
-        write!(f, "{high}{low}")
+        let word = self.0;
+        write!(f, "{word:04X}")
     }
 }

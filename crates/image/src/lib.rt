@@ -6,12 +6,12 @@ ghost use Rattle.image.specs.Check.{Check, accepted};
 ghost use Rattle.image.specs.Sums.{Meanings};
 ghost use Rattle.image.specs.Startable.{entry as the_entry, startable as can_start};
 
-mod ccitt;
-mod crc8;
+mod stored;
+mod sum;
 mod vector;
 
-pub use ccitt::{CcittCheck, CcittState};
-pub use crc8::{Crc8Check, Crc8State};
+pub use stored::Stored;
+pub use sum::{CcittCheck, Crc8Check, SumCheck, SumState};
 pub use vector::VectorOnly;
 
 // An erased entry.
@@ -25,13 +25,9 @@ pub trait ImageCheck {
     // How many bytes the stored sum has, at the start of the image.
     const SUM_LENGTH: usize;
 
-    ghost stored: { ℕ };
+    ghost SUM_LENGTH: { ℕ };
 
     ghost check: { Check Self.State };
-
-    // The constant, as a number that a contract can name.
-    fn stored_length() -> usize
-        ensures { result ≡ stored };
 
     fn start() -> Self::State
         ensures { result ≡ check.start };
@@ -47,23 +43,18 @@ pub trait ImageCheck {
 pub fn accepts<C: ImageCheck>(image: &[u8]) -> bool
     ensures { result ≡ accepted C.ImageCheck.check image.now }
 {
-    let mut state = C::start();
-    for byte in image {
-        state = C::step(state, *byte);
-    }
+    let state = image
+        .iter()
+        .copied()
+        .fold(C::start(), |state, byte| C::step(state, byte));
     C::accepts(state)
 }
 
 // The stored sum and the bytes that it covers, which are all later ones; None where the image is shorter than its stored sum.
 pub fn split_sum<C: ImageCheck>(image: &[u8]) -> Option<(&[u8], &[u8])>
-    ensures { MatchOption result (length image.now < C.ImageCheck.stored) (λ p. (C.ImageCheck.stored ≤ length image.now) × (p.0.now ≡ take C.ImageCheck.stored image.now) × (p.1.now ≡ drop C.ImageCheck.stored image.now)) }
+    ensures { MatchOption result (length image.now < C.ImageCheck.SUM_LENGTH) (λ p. (C.ImageCheck.SUM_LENGTH ≤ length image.now) × (p.0.now ≡ take C.ImageCheck.SUM_LENGTH image.now) × (p.1.now ≡ drop C.ImageCheck.SUM_LENGTH image.now)) }
 {
-    let length = C::stored_length();
-    if length <= image.len() {
-        Some(image.split_at(length))
-    } else {
-        None
-    }
+    image.split_at_checked(C::SUM_LENGTH)
 }
 
 // An area's entry: its last two bytes, low byte first; None where it has fewer.

@@ -3,7 +3,7 @@ use Rattle.std.proofs.Common.{◌≡◌, ℕ, ◌/◌, ◌%◌, ◌<◌, ◌≤�
 use Rattle.crc.specs.Sums.{ccitt}
 use Rattle.image.specs.Check.{accepted}
 use Rattle.image.specs.Sums.{ccitt_check}
-use Rattle.image.proofs.Stored.{ccitt_means}
+use Rattle.image.proofs.Accepting.{ccitt_means}
 use Rattle.inspect.specs.Seal.{sealed}
 
 pub sealed_is : (image : List ℕ) (sum : ℕ) (bytes : List ℕ) → 2 ≤ length image → sum ≡ ccitt (drop 2 image) → sum < 65536

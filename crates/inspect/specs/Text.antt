@@ -1,25 +1,31 @@
 -- The words in which a report is printed.
-use Rattle.std.specs.Prelude.{ℕ, List, [], ◌∷◌, ◌++◌, codes, decimal}
+use Rattle.std.specs.Prelude.{ℕ, List, [], ◌∷◌, ◌++◌, codes, decimal, option_map, Some, None, Option, Ok, Err, Result}
 use Prim.Native.String.{String}
 use Rattle.hex_digits.specs.Digits.{byte_digits, word_digits}
-use Rattle.inspect.specs.declared.Field.{Field}
-use Rattle.inspect.specs.declared.Field.TheVariants as F
-use Rattle.inspect.specs.declared.Verdict.{Verdict}
-use Rattle.inspect.specs.declared.Verdict.TheVariants as V
+use Rattle.inspect.specs.declared.Reason.{Reason}
+use Rattle.inspect.specs.declared.Reason.TheVariants as V
 use Rattle.inspect.specs.declared.Misuse.{Misuse}
 use Rattle.inspect.specs.declared.Misuse.TheVariants as M
 use Rattle.inspect.specs.declared.Report.{Report}
 
-abbrev pub field_text : Field → List ℕ
-field_text F.Missing = codes "none, the image is too short"
-field_text (F.Byte n) = codes "0x" ++ byte_digits n
-field_text (F.Word n) = codes "0x" ++ word_digits n
+-- a number in digits, or why there is none
+abbrev pub field_text : {N : Type 0} → (N → List ℕ) → Option N → List ℕ
+field_text digits None = codes "none, the image is too short"
+field_text digits (Some n) = codes "0x" ++ digits n
 
-abbrev pub verdict_text : Verdict → List ℕ
-verdict_text V.Startable = codes "yes"
-verdict_text V.NoEntry = codes "no, the image is too short for an entry"
-verdict_text V.ErasedEntry = codes "no, the entry is erased"
-verdict_text V.WrongSum = codes "no, the stored sum is wrong"
+-- the same where a display writes the digits
+abbrev pub field_output : {D : Type 0} → (D → Option (List ℕ)) → Option D → Option (List ℕ)
+field_output output None = Some (codes "none, the image is too short")
+field_output output (Some d) = option_map (λ digits. codes "0x" ++ digits) (output d)
+
+abbrev pub reason_text : Reason → List ℕ
+reason_text V.NoEntry = codes "the image is too short for an entry"
+reason_text V.ErasedEntry = codes "the entry is erased"
+reason_text V.WrongSum = codes "the stored sum is wrong"
+
+abbrev pub verdict_text : Result (Unit {0}) Reason → List ℕ
+verdict_text (Ok _) = codes "yes"
+verdict_text (Err why) = codes "no, " ++ reason_text why
 
 abbrev pub misuse_text : Misuse → List ℕ
 misuse_text M.UnknownWord = codes "unknown word; write inspect, seal or nothing; nothing was read or written"
@@ -34,11 +40,11 @@ abbrev pub report_text : Report → List ℕ
 report_text r =
     lines (
     ("length in bytes", decimal r.length)
-    ∷ ("CRC-CCITT sum of all bytes after the first two", field_text r.ccitt.computed)
-    ∷ ("stored CRC-CCITT sum, the first two bytes", field_text r.ccitt.stored)
-    ∷ ("CRC-8 sum of all bytes after the first", field_text r.crc8.computed)
-    ∷ ("stored CRC-8 sum, the first byte", field_text r.crc8.stored)
-    ∷ ("entry, the last two bytes", field_text r.entry)
+    ∷ ("CRC-CCITT sum of all bytes after the first two", field_text (λ s. word_digits s.computed) r.ccitt)
+    ∷ ("stored CRC-CCITT sum, the first two bytes", field_text (λ s. word_digits s.stored) r.ccitt)
+    ∷ ("CRC-8 sum of all bytes after the first", field_text (λ s. byte_digits s.computed) r.crc8)
+    ∷ ("stored CRC-8 sum, the first byte", field_text (λ s. byte_digits s.stored) r.crc8)
+    ∷ ("entry, the last two bytes", field_text word_digits r.entry)
     ∷ ("may be started, checked by CRC-CCITT", verdict_text r.verdicts.ccitt)
     ∷ ("may be started, checked by CRC-8", verdict_text r.verdicts.crc8)
     ∷ ("may be started, by its entry only", verdict_text r.verdicts.vector)

@@ -1,135 +1,112 @@
 // What there is to tell of an application image, and an image with its stored sum put right.
 #![tactic(auto)]
 
-ghost use Rattle.std.specs.Prelude.{◌≡◌};
+ghost use Rattle.std.specs.Prelude.{◌≡◌, fold};
 ghost use Rattle.image.specs.Check.{accepted};
-ghost use Rattle.inspect.specs.Facts.{ccitt_sums, crc8_sums, verdict, report, Judged};
+ghost use Rattle.inspect.specs.Facts.{sums_of, verdict, report, Judged};
 ghost use Rattle.inspect.specs.Seal.{Seals};
 ghost use Rattle.inspect.specs.Task.{NamesATask};
 
-use crc::{Crc8, CrcCcitt};
-use image::{CcittCheck, Crc8Check, ImageCheck, VectorOnly};
+use crc::{Checksum, Crc8, CrcCcitt};
+use image::{CcittCheck, Crc8Check, ImageCheck, Stored, SumCheck, VectorOnly};
+use std::str::FromStr;
 
 mod text;
 
-// A number that an image has only where it is long enough.
-#[derive(Clone, Copy)]
-pub enum Field {
-    Missing,
-    Byte(u8),
-    Word(u16),
-}
-
 // A sum as worked out over the bytes that it covers, and as the image stores it.
-#[derive(Clone, Copy)]
-pub struct Sums {
-    pub computed: Field,
-    pub stored: Field,
+#[derive(Clone, Copy, Debug, PartialEq, Eq)]
+pub struct Sums<R> {
+    pub computed: R,
+    pub stored: R,
 }
 
-// Whether an image may be started under a check, and why not.
-#[derive(Clone, Copy)]
-pub enum Verdict {
-    Startable,
+// Why an image may not be started.
+#[derive(Clone, Copy, Debug, PartialEq, Eq)]
+pub enum Reason {
     NoEntry,
     ErasedEntry,
     WrongSum,
 }
 
-// The verdict under each of the three checks.
-#[derive(Clone, Copy)]
+// Whether an image may be started under each of the three checks.
+#[derive(Clone, Copy, Debug, PartialEq, Eq)]
 pub struct Verdicts {
-    pub ccitt: Verdict,
-    pub crc8: Verdict,
-    pub vector: Verdict,
+    pub ccitt: Result<(), Reason>,
+    pub crc8: Result<(), Reason>,
+    pub vector: Result<(), Reason>,
 }
 
-#[derive(Clone, Copy)]
+// What there is to tell of an image; its sums and its entry are None where it is too short for them.
+#[derive(Clone, Copy, Debug, PartialEq, Eq)]
 pub struct Report {
     pub length: usize,
-    pub ccitt: Sums,
-    pub crc8: Sums,
-    pub entry: Field,
+    pub ccitt: Option<Sums<u16>>,
+    pub crc8: Option<Sums<u8>>,
+    pub entry: Option<u16>,
     pub verdicts: Verdicts,
 }
 
 // What can be asked for.
-#[derive(Clone, Copy)]
+#[derive(Clone, Copy, Debug, PartialEq, Eq)]
 pub enum Task {
     Inspect,
     Seal,
 }
 
 // Words that name no task.
-#[derive(Clone, Copy, Debug)]
+#[derive(Clone, Copy, Debug, PartialEq, Eq)]
 pub enum Misuse {
     UnknownWord,
     TooManyWords,
 }
 
 // The sum that an image was sealed with.
-#[derive(Clone, Copy)]
+#[derive(Clone, Copy, Debug, PartialEq, Eq)]
 pub struct Sealed(pub u16);
 
 // An image of fewer than two bytes has no room for a stored CRC-CCITT sum.
-#[derive(Clone, Copy, Debug)]
+#[derive(Clone, Copy, Debug, PartialEq, Eq)]
 pub struct TooShort;
 
-impl Task {
-    // The task that a word names; None for an unknown word.
-    pub fn named(word: &str) -> Option<Task>
-        ensures { NamesATask word.now result }
-    {
+impl FromStr for Task {
+    type Err = Misuse;
+
+    ghost from_str_gives = { NamesATask };
+
+    fn from_str(word: &str) -> Result<Task, Misuse> {
         match word {
-            "inspect" => Some(Task::Inspect),
-            "seal" => Some(Task::Seal),
-            _ => None,
+            "inspect" => Ok(Task::Inspect),
+            "seal" => Ok(Task::Seal),
+            _ => Err(Misuse::UnknownWord),
         }
     }
 }
 
-impl Sums {
-    const MISSING: Sums = Sums {
-        computed: Field::Missing,
-        stored: Field::Missing,
-    };
-}
-
-pub fn ccitt_sums(image: &[u8]) -> Sums
-    ensures { result ≡ ccitt_sums image.now }
+// The sums of an image by a checksum; None where it is shorter than its stored sum.
+pub fn sums_of<S: Checksum<Register: Stored>>(image: &[u8]) -> Option<Sums<S::Register>>
+    ensures { result ≡ sums_of S.Register.LENGTH (fold S.Register.push S.Register.ZERO) (fold S.steps S.starts) image.now }
 {
-    match image::split_sum::<CcittCheck>(image) {
-        Some(([low, high], covered)) => Sums {
-            computed: Field::Word(crc::sum::<CrcCcitt>(covered)),
-            stored: Field::Word(u16::from_le_bytes([*low, *high])),
-        },
-        _ => Sums::MISSING,
-    }
-}
-
-pub fn crc8_sums(image: &[u8]) -> Sums
-    ensures { result ≡ crc8_sums image.now }
-{
-    match image::split_sum::<Crc8Check>(image) {
-        Some(([stored], covered)) => Sums {
-            computed: Field::Byte(crc::sum::<Crc8>(covered)),
-            stored: Field::Byte(*stored),
-        },
-        _ => Sums::MISSING,
-    }
+    let (stored, covered) = image::split_sum::<SumCheck<S>>(image)?;
+    Some(Sums {
+        computed: crc::sum::<S>(covered),
+        stored: stored
+            .iter()
+            .copied()
+            .fold(<S::Register>::ZERO, |sum, byte| sum.push(byte)),
+    })
 }
 
 // Whether a controller with this check may start the image, and why not.
-pub fn judge<C: ImageCheck>(image: &[u8]) -> Verdict
+pub fn judge<C: ImageCheck>(image: &[u8]) -> Result<(), Reason>
     ensures { result ≡ verdict (accepted C.ImageCheck.check) image.now }
 {
     if image::startable::<C>(image) {
-        return Verdict::Startable;
+        return Ok(());
     }
     match image::entry(image) {
-        None => Verdict::NoEntry,
-        Some(0xFFFF) => Verdict::ErasedEntry,
-        Some(_) => Verdict::WrongSum,
+        None => Err(Reason::NoEntry),
+        Some(0xFFFF) => Err(Reason::ErasedEntry),
+        Some(_) => Err(Reason::WrongSum),
     }
 }
 
@@ -140,12 +117,9 @@ pub fn inspect(image: &[u8]) -> Report
 {
     Report {
         length: image.len(),
-        ccitt: ccitt_sums(image),
-        crc8: crc8_sums(image),
-        entry: match image::entry(image) {
-            None => Field::Missing,
-            Some(address) => Field::Word(address),
-        },
+        ccitt: sums_of::<CrcCcitt>(image),
+        crc8: sums_of::<Crc8>(image),
+        entry: image::entry(image),
         verdicts: Verdicts {
             ccitt: judge::<CcittCheck>(image),
             crc8: judge::<Crc8Check>(image),

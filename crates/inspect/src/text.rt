@@ -1,40 +1,53 @@
 // A report in plain words, one fact a line.
 ghost use Rattle.std.specs.Prelude.{◌++◌, Some, codes};
 ghost use Rattle.hex_digits.specs.Digits.{word_digits};
-ghost use Rattle.inspect.specs.Text.{field_text, verdict_text, misuse_text, report_text};
+ghost use Rattle.inspect.specs.Text.{field_output, reason_text, verdict_text, misuse_text, report_text};
 
-use crate::{Field, Misuse, Report, Sealed, TooShort, Verdict};
+use crate::{Misuse, Reason, Report, Sealed, TooShort};
 use hex_digits::{HexByte, HexWord};
 use std::error::Error;
 use std::fmt;
 
-impl fmt::Display for Field {
-    ghost output = { λ x. Some (field_text x) };
+// A number in digits, or why there is none.
+#[derive(Clone, Copy)]
+struct Field<D>(Option<D>);
+
+impl<D: fmt::Display> fmt::Display for Field<D> {
+    ghost output = { λ x. field_output D.output x.0 };
 
     fn fmt<W: fmt::Write>(&self, f: &mut fmt::Formatter<W>) -> fmt::Result {
-        match *self {
-            Field::Missing => write!(f, "none, the image is too short"),
-            Field::Byte(n) => {
-                let digits = HexByte(n);
-                write!(f, "0x{digits}")
-            }
-            Field::Word(n) => {
-                let digits = HexWord(n);
-                write!(f, "0x{digits}")
-            }
+        match &self.0 {
+            None => write!(f, "none, the image is too short"),
+            Some(digits) => write!(f, "0x{digits}"),
         }
     }
 }
 
-impl fmt::Display for Verdict {
-    ghost output = { λ x. Some (verdict_text x) };
+impl fmt::Display for Reason {
+    ghost output = { λ x. Some (reason_text x) };
 
     fn fmt<W: fmt::Write>(&self, f: &mut fmt::Formatter<W>) -> fmt::Result {
-        match *self {
-            Verdict::Startable => write!(f, "yes"),
-            Verdict::NoEntry => write!(f, "no, the image is too short for an entry"),
-            Verdict::ErasedEntry => write!(f, "no, the entry is erased"),
-            Verdict::WrongSum => write!(f, "no, the stored sum is wrong"),
+        match self {
+            Reason::NoEntry => write!(f, "the image is too short for an entry"),
+            Reason::ErasedEntry => write!(f, "the entry is erased"),
+            Reason::WrongSum => write!(f, "the stored sum is wrong"),
+        }
+    }
+}
+
+impl Error for Reason {}
+
+// Whether an image may be started, in words.
+#[derive(Clone, Copy)]
+struct Verdict(Result<(), Reason>);
+
+impl fmt::Display for Verdict {
+    ghost output = { λ x. Some (verdict_text x.0) };
+
+    fn fmt<W: fmt::Write>(&self, f: &mut fmt::Formatter<W>) -> fmt::Result {
+        match self.0 {
+            Ok(()) => write!(f, "yes"),
+            Err(why) => write!(f, "no, {why}"),
         }
     }
 }
@@ -44,14 +57,14 @@ impl fmt::Display for Report {
 
     fn fmt<W: fmt::Write>(&self, f: &mut fmt::Formatter<W>) -> fmt::Result {
         let length = self.length;
-        let ccitt = self.ccitt.computed;
-        let stored_ccitt = self.ccitt.stored;
-        let crc8 = self.crc8.computed;
-        let stored_crc8 = self.crc8.stored;
-        let entry = self.entry;
-        let by_ccitt = self.verdicts.ccitt;
-        let by_crc8 = self.verdicts.crc8;
-        let by_vector = self.verdicts.vector;
+        let ccitt = Field(self.ccitt.map(|sums| HexWord(sums.computed)));
+        let stored_ccitt = Field(self.ccitt.map(|sums| HexWord(sums.stored)));
+        let crc8 = Field(self.crc8.map(|sums| HexByte(sums.computed)));
+        let stored_crc8 = Field(self.crc8.map(|sums| HexByte(sums.stored)));
+        let entry = Field(self.entry.map(HexWord));
+        let by_ccitt = Verdict(self.verdicts.ccitt);
+        let by_crc8 = Verdict(self.verdicts.crc8);
+        let by_vector = Verdict(self.verdicts.vector);
         write!(
             f,
             "length in bytes: {length}\nCRC-CCITT sum of all bytes after the first two: {ccitt}\nstored CRC-CCITT sum, the first two bytes: {stored_ccitt}\nCRC-8 sum of all bytes after the first: {crc8}\nstored CRC-8 sum, the first byte: {stored_crc8}\nentry, the last two bytes: {entry}\nmay be started, checked by CRC-CCITT: {by_ccitt}\nmay be started, checked by CRC-8: {by_crc8}\nmay be started, by its entry only: {by_vector}\n"

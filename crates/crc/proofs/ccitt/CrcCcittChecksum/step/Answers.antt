@@ -7,19 +7,6 @@ use Rattle.crc.specs.Register.{shifts, fed}
 use Rattle.crc.proofs.Linearity.{fed_by_table}
 use Rattle.crc.proofs.ccitt.CrcCcittChecksum.step.Goals as goal
 
--- the place at which the table is read
-within : (c : goal.After-from) → bit_xor (c.args.register / 256) c.from.result < 256
-within c = xor_lt 8 (c.args.register / 256) c.from.result (shr_below c.args.register 8 8 (search rules)) (omega arith)
-
-pub bounds-register : goal.bounds-register
-bounds-register c = within c
-
-pub overflow_cast-result : goal.overflow_cast-result
-overflow_cast-result c = record { fits = omega (arith, within c) }
-
-pub offset_bounds-register : goal.offset_bounds-register
-offset_bounds-register c = record { fits = omega (arith, within c) }
-
 pub returns : goal.returns
 unfolding shifts
 returns c =

@@ -1,19 +1,10 @@
 -- At eight bits nothing of the register is left beside the table's entry.
-use Rattle.std.proofs.Common.{ℕ, ◌<◌, sym, ap, ◌∙◌, zero-add, mul-one, arith, rules}
+use Rattle.std.proofs.Common.{ℕ, ◌<◌, sym, ap, ◌∙◌, zero-add, mul-one, rules}
 use lib.Bits.{bit_xor}
 use Rattle.std.proofs.lemmas.Nat.{xor_lt}
 use Rattle.std.proofs.lemmas.List.FromFn.{get_or-map-range_with_len}
 use Rattle.crc.specs.Register.{shifts, fed}
 use Rattle.crc.proofs.crc8.Crc8Checksum.step.Goals as goal
-
-pub bounds-register : goal.bounds-register
-bounds-register c = xor_lt 8 c.args.register c.args.byte (search rules) (search rules)
-
-pub overflow_cast-result : goal.overflow_cast-result
-overflow_cast-result c =
-    let h : bit_xor c.args.register c.args.byte < 256 =
-    xor_lt 8 c.args.register c.args.byte (search rules) (search rules) in
-    record { fits = omega arith }
 
 pub returns : goal.returns
 unfolding shifts fed

@@ -1,0 +1,84 @@
+-- What each check accepts, told with no state: after the stored sum, the state is that sum beside the register.
+use Rattle.std.proofs.Common.{◌≡◌, ℕ, zero, suc, ◌+◌, ◌-◌, ◌*◌, ◌/◌, ◌^◌, ◌<◌, ◌≤◌, Bool, true, eqb, ◌↔◌, List, [], ◌∷◌, length, take, drop, fold, sym, refl, ap, ◌∙◌, mul_assoc, arith}
+use native.Mathlib.Nat.{pow-suc, pow-succ', mul-add, zero-div, one-le-pow, add-mul-div_left, div-div-eq-div-mul}
+use Rattle.std.proofs.lemmas.Bool.{eqb-true, eq-eqb, lt-ltb, false≢true}
+use Rattle.std.proofs.lemmas.List.{length-take-le}
+use Rattle.std.proofs.lemmas.Nat.{pow-add}
+use Rattle.crc.specs.Register.{fed}
+use Rattle.image.specs.Check.{accepted}
+use Rattle.image.specs.Sums.{word, number, pushed, sum_step, sum_accepts, number_check, ccitt_check, crc8_check, HoldsSum, HoldsCcitt, HoldsCrc8}
+use Rattle.image.specs.declared.sum.SumState.TheVariants as S
+
+module _ {R : Type 0} (push : R → ℕ → R) (same : R → R → Bool) (starts : R) (steps : R → ℕ → R) where
+  -- once the stored sum is whole, the state carries a register through a list
+  carried : (stored register : R) (bytes : List ℕ)
+      → fold (sum_step push starts steps) (S.Summing stored register) bytes ≡ S.Summing stored (fold steps register bytes)
+  carried stored register [] = refl
+  carried stored register (byte ∷ bytes) = carried stored (steps register byte) bytes
+
+  one_less : (missing : ℕ) (stored : R) (byte : ℕ)
+      → sum_step push starts steps (S.Storing (suc (suc missing)) stored) byte ≡ S.Storing (suc missing) (push stored byte)
+  one_less missing stored byte =
+      let less : suc (suc missing) - 1 ≡ suc missing = omega arith in
+      rw (lt-ltb 1 (suc (suc missing)) (omega arith), less)
+
+  -- what is accepted while bytes of the stored sum are missing
+  said : (missing : ℕ) (stored : R) (bytes : List ℕ)
+      → (sum_accepts same (fold (sum_step push starts steps) (S.Storing (suc missing) stored) bytes) ≡ true)
+      ↔ ((suc missing ≤ length bytes) × (same (fold push stored (take (suc missing) bytes)) (fold steps starts (drop (suc missing) bytes)) ≡ true))
+  said missing stored [] = (λ e. absurd (false≢true e), λ h. let none : ⊥ = omega (arith, h.0) in absurd none)
+  said zero stored (byte ∷ bytes) =
+      let e = ap (sum_accepts same) (carried (push stored byte) starts bytes) in
+      (λ t. (omega arith, sym e ∙ t), λ h. e ∙ h.1)
+  said (suc missing) stored (byte ∷ bytes) =
+      let e = ap (λ s. sum_accepts same (fold (sum_step push starts steps) s bytes)) (one_less missing stored byte) in
+      let w = said missing (push stored byte) bytes in
+      (λ t. let h = w.0 (sym e ∙ t) in (omega (arith, h.0), h.1), λ h. e ∙ w.1 (omega (arith, h.0), h.1))
+
+-- the bytes of a register come in one after the other
+pushed_all : (n k : ℕ) (bytes : List ℕ) (r : ℕ) → n ≡ length bytes + k
+    → fold (pushed n) r bytes ≡ r / 256 ^ length bytes + 256 ^ k * number bytes
+pushed_all n k [] r e = omega arith
+pushed_all n k (byte ∷ bytes) r e =
+    let l = length bytes in
+    let before : n - 1 ≡ l + k = omega arith in
+    let e' : n ≡ l + suc k = omega arith in
+    let above : pushed n r byte ≡ r / 256 + 256 ^ l * (256 ^ k * byte) =
+    ap (λ x. r / 256 + x * byte) (ap (λ i. 256 ^ i) before ∙ pow-add 256 l k) ∙ ap (λ x. r / 256 + x) (mul_assoc (256 ^ l) (256 ^ k) byte) in
+    let down : pushed n r byte / 256 ^ l ≡ r / 256 ^ suc l + 256 ^ k * byte =
+    ap (λ x. x / 256 ^ l) above
+    ∙ add-mul-div_left (r / 256) (256 ^ k * byte) (one-le-pow l 256 (omega arith))
+    ∙ ap (λ x. x + 256 ^ k * byte) (div-div-eq-div-mul r 256 (256 ^ l) ∙ ap (λ x. r / x) (sym (pow-succ' 256 l))) in
+    let more : 256 ^ suc k * number bytes ≡ 256 ^ k * (256 * number bytes) =
+    ap (λ x. x * number bytes) (pow-suc 256 k) ∙ mul_assoc (256 ^ k) 256 (number bytes) in
+    pushed_all n (suc k) bytes (pushed n r byte) e' ∙ omega (arith, down, more, mul-add (256 ^ k) byte (256 * number bytes))
+
+-- a register of n bytes that took in n of them is the number that they are
+pub whole : (n : ℕ) (bytes : List ℕ) → n ≤ length bytes → fold (pushed n) 0 (take n bytes) ≡ number (take n bytes)
+whole n bytes h =
+    let e : n ≡ length (take n bytes) + 0 = omega (arith, length-take-le n bytes h) in
+    pushed_all n 0 (take n bytes) 0 e ∙ omega (arith, zero-div (256 ^ length (take n bytes)))
+
+pub sum_means : (n starts : ℕ) (steps : ℕ → ℕ → ℕ) → 0 < n → (image : List ℕ)
+    → (accepted (number_check n starts steps) image ≡ true) ↔ HoldsSum n (fold steps starts) image
+sum_means zero starts steps pos image = let none : ⊥ = omega arith in absurd none
+sum_means (suc n) starts steps pos image =
+    let w = said (pushed (suc n)) eqb starts steps n 0 image in (
+      λ t. let h = w.0 t in (h.0, sym (whole (suc n) image h.0) ∙ eqb-true _ _ h.1),
+      λ h. w.1 (h.0, eq-eqb _ _ (whole (suc n) image h.0 ∙ h.1)),
+    )
+
+pub ccitt_means : (image : List ℕ) → (accepted ccitt_check image ≡ true) ↔ HoldsCcitt image
+ccitt_means [] = sum_means 2 0xFFFF (fed 16 0x1021) (omega arith) []
+ccitt_means (low ∷ []) = sum_means 2 0xFFFF (fed 16 0x1021) (omega arith) (low ∷ [])
+ccitt_means (low ∷ high ∷ bytes) =
+    let is : number (low ∷ high ∷ []) ≡ word low high = omega arith in
+    let w = sum_means 2 0xFFFF (fed 16 0x1021) (omega arith) (low ∷ high ∷ bytes) in
+    (λ t. let h = w.0 t in (h.0, sym is ∙ h.1), λ h. w.1 (h.0, is ∙ h.1))
+
+pub crc8_means : (image : List ℕ) → (accepted crc8_check image ≡ true) ↔ HoldsCrc8 image
+crc8_means [] = sum_means 1 0 (fed 8 0x07) (omega arith) []
+crc8_means (stored ∷ bytes) =
+    let is : number (stored ∷ []) ≡ stored = omega arith in
+    let w = sum_means 1 0 (fed 8 0x07) (omega arith) (stored ∷ bytes) in
+    (λ t. let h = w.0 t in (h.0, sym is ∙ h.1), λ h. w.1 (h.0, is ∙ h.1))
