@@ -19,7 +19,7 @@ pub trait Cells {
         ensures { segment.new ≡ rules.torn_erase pattern segment.old };
 }
 
-#[derive(Drop)]
+#[derive(Clone, Copy)]
 pub struct FlashCells;
 
 impl Cells for FlashCells {
@@ -44,7 +44,7 @@ impl Cells for FlashCells {
     }
 }
 
-#[derive(Drop)]
+#[derive(Clone, Copy)]
 pub struct FramCells;
 
 impl Cells for FramCells {
@@ -62,6 +62,6 @@ impl Cells for FramCells {
 
     fn torn_erase(pattern: u16, segment: &mut [u8]) {
         let reached = usize::from(pattern % 512).min(segment.len());
-        segment[0..reached].fill(0xFF);
+        segment[..reached].fill(0xFF);
     }
 }
