@@ -46,8 +46,6 @@ pub trait Memory {
     // What is known of a memory, and how a change and the return of its supply come out.
     ghost make: { Make Self };
 
-    ghost laws: { Laws make };
-
     fn size(&self) -> usize
         ensures { result ≡ the_size (make.state self.now) };
 
@@ -63,6 +61,9 @@ pub trait Memory {
     // The supply returns.
     fn restore(&mut self)
         ensures { make.restores self.old self.new };
+
+    // What each memory has to show.
+    ghost laws: { Laws make };
 }
 
 // Writes bytes one after the other from a place up, until one is refused.

@@ -7,8 +7,6 @@ ghost use Rattle.models.specs.Technologies.{flash_sound, fram_sound};
 pub trait Cells {
     ghost rules: { CellRules };
 
-    ghost sound: { Sound rules };
-
     fn mix(old: u8, new: u8) -> u8
         ensures { result ≡ rules.mix old new };
 
@@ -17,6 +15,9 @@ pub trait Cells {
 
     fn torn_erase(pattern: u16, segment: &mut [u8])
         ensures { segment.new ≡ rules.torn_erase pattern segment.old };
+
+    // What each technology has to show.
+    ghost sound: { Sound rules };
 }
 
 #[derive(Clone, Copy)]

@@ -7,7 +7,7 @@ use Rattle.area.proofs.startable_at.Goals as goal
 
 pub returns-then-high : goal.returns-then-high
 returns-then-high g c area reads =
-    let law = g.M.Memory.laws.lawful c.args.memory.now in
+    let law = g.met.M.Memory.laws.lawful c.args.memory.now in
     let low = read_at _ law c.args.place _ _ _ c.saturating_add.ensures c.read-low.ensures in
     let high = read_at _ law c.args.place _ _ _ c.saturating_add-2.ensures c.read-high.ensures in
     erased_entry reads (accepted g.C.ImageCheck.check) (omega arith) _ _ low high c.if-low.true c.if-high.true
@@ -15,7 +15,7 @@ returns-then-high g c area reads =
 pub loop-i-preserved : goal.loop-i-preserved
 loop-i-preserved g c area reads =
     let check = g.C.ImageCheck.check in
-    let law = g.M.Memory.laws.lawful c.args.memory.now in
+    let law = g.met.M.Memory.laws.lawful c.args.memory.now in
     let long : length area ≡ c.args.length = reads.length in
     let less : c.loop-i.i < length area = omega arith in
     let byte = read_at _ law c.args.place _ _ _ c.saturating_add-in-loop-i.ensures c.read.ensures in
@@ -26,7 +26,7 @@ loop-i-preserved g c area reads =
 pub returns : goal.returns
 returns g c area reads =
     let check = g.C.ImageCheck.check in
-    let law = g.M.Memory.laws.lawful c.args.memory.now in
+    let law = g.met.M.Memory.laws.lawful c.args.memory.now in
     let long : length area ≡ c.args.length = reads.length in
     let low = read_at _ law c.args.place _ _ _ c.saturating_add.ensures c.read-low.ensures in
     let high = read_at _ law c.args.place _ _ _ c.saturating_add-2.ensures c.read-high.ensures in

@@ -37,6 +37,6 @@ returns g c =
     let kept = ap (λ (p : Simulated g.row.C.Denot × End). p.0.bytes.ghost_name) ran in
     let bytes : c.write_all-end.new.memory.bytes.now ≡ replicate 3 0xFF ++ written ++ replicate 506 0xFF ++ replicate 88 0x05 =
     ap (λ (p : Simulated g.row.C.Denot × End). p.0.bytes.now) ran
-    ∙ ap (λ xs. replicate 3 0xFF ++ xs ++ replicate 506 0xFF ++ replicate 88 0x05) (taken cells g.C.Cells.sound written long (λ i. search rules)) in
+    ∙ ap (λ xs. replicate 3 0xFF ++ xs ++ replicate 506 0xFF ++ replicate 88 0x05) (taken cells g.met.C.Cells.sound written long (λ i. search rules)) in
     let end : c.write_all-end.result ≡ Ok tt = ap (λ (p : Simulated g.row.C.Denot × End). p.1) ran in
     record { bytes = search rules; end = end }
