@@ -27,7 +27,6 @@ use Rattle.words.specs.Outcomes.{Reply}
 pub record Blank {C : Type 0} (count : ℕ) (cuts : List Cut) (m : Simulated C) : Type 0 where
   pub over : m.bytes.now ≡ replicate count 0xFF
   pub with : m.cuts.now ≡ cuts
-  pub next : m.next ≡ 0
   pub finished : m.finished ≡ 0
   pub on : m.on ≡ true
 

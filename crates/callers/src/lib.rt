@@ -6,115 +6,100 @@ ghost use Rattle.std.specs.Prelude.{◌≡◌, ◌++◌, replicate, Ok, Err, sli
 ghost use Rattle.memory.specs.declared.Fault.TheVariants.{SupplyLost};
 
 use memory::{Fault, erase_all, write_all};
-use models::{Cut, Flash, FlashCells, Fram, FramCells};
+use models::{Cells, Cut, FlashCells, FramCells, Simulated};
 
 // A caller's bytes after the changes, and how the last list of them ended.
-#[derive(Clone, Copy)]
+#[derive(Clone, Copy, Debug, PartialEq, Eq)]
 pub struct Left {
     pub bytes: [u8; 600],
     pub end: Result<(), Fault>,
 }
 
-#[derive(Clone, Copy)]
+#[derive(Clone, Copy, Debug, PartialEq, Eq)]
 pub struct Both {
     pub flash: Left,
     pub fram: Left,
 }
 
-// A write of 0x07 over an erased byte, torn under the pattern 0x10.
+// A write of 0x07 over an erased byte, torn under the pattern 0x10, in one technology.
+fn torn_write_in<C: Cells>() -> Left
+    ensures bytes { result.bytes ≡ slice_set (replicate 600 0xFF) 3 (C.Cells.rules.torn_write 0x10 0xFF 0x07) }
+    ensures end { result.end ≡ Err (SupplyLost 3) }
+{
+    let cuts = [Cut {
+        count: 0,
+        pattern: 0x10,
+    }];
+    let mut bytes = [0xFF; 600];
+    let mut memory: Simulated<C> = Simulated::new(&mut bytes, &cuts);
+    let end = write_all(&mut memory, 3, &[0x07]);
+    Left { bytes, end }
+}
+
+// The same in both.
 pub fn torn_write() -> Both
     ensures flash_bytes { result.flash.bytes ≡ slice_set (replicate 600 0xFF) 3 0x17 }
     ensures flash_end { result.flash.end ≡ Err (SupplyLost 3) }
     ensures fram_bytes { result.fram.bytes ≡ replicate 600 0xFF }
     ensures fram_end { result.fram.end ≡ Err (SupplyLost 3) }
 {
-    let cuts = [Cut {
-        count: 0,
-        pattern: 0x10,
-    }];
-    let mut flash = [0xFF; 600];
-    let mut fram = [0xFF; 600];
-    let flash_end = {
-        let mut memory = Flash::new(&mut flash, &cuts);
-        write_all(&mut memory, 3, &[0x07])
-    };
-    let fram_end = {
-        let mut memory = Fram::new(&mut fram, &cuts);
-        write_all(&mut memory, 3, &[0x07])
-    };
     Both {
-        flash: Left {
-            bytes: flash,
-            end: flash_end,
-        },
-        fram: Left {
-            bytes: fram,
-            end: fram_end,
-        },
+        flash: torn_write_in::<FlashCells>(),
+        fram: torn_write_in::<FramCells>(),
     }
 }
 
-// An erase of a segment full of 0x05, torn under the pattern 0x12.
+// An erase of a segment full of 0x05, torn under the pattern 0x12, in one technology.
+fn torn_erase_in<C: Cells>() -> Left
+    ensures bytes { result.bytes ≡ C.Cells.rules.torn_erase 0x12 (replicate 512 0x05) ++ replicate 88 0x05 }
+    ensures end { result.end ≡ Err (SupplyLost 0) }
+{
+    let cuts = [Cut {
+        count: 0,
+        pattern: 0x12,
+    }];
+    let mut bytes = [0x05; 600];
+    let mut memory: Simulated<C> = Simulated::new(&mut bytes, &cuts);
+    let end = erase_all(&mut memory, 0, 1);
+    Left { bytes, end }
+}
+
+// The same in both.
 pub fn torn_erase() -> Both
     ensures flash_bytes { result.flash.bytes ≡ replicate 512 0x17 ++ replicate 88 0x05 }
     ensures flash_end { result.flash.end ≡ Err (SupplyLost 0) }
     ensures fram_bytes { result.fram.bytes ≡ replicate 18 0xFF ++ replicate 582 0x05 }
     ensures fram_end { result.fram.end ≡ Err (SupplyLost 0) }
 {
-    let cuts = [Cut {
-        count: 0,
-        pattern: 0x12,
-    }];
-    let mut flash = [0x05; 600];
-    let mut fram = [0x05; 600];
-    let flash_end = {
-        let mut memory = Flash::new(&mut flash, &cuts);
-        erase_all(&mut memory, 0, 1)
-    };
-    let fram_end = {
-        let mut memory = Fram::new(&mut fram, &cuts);
-        erase_all(&mut memory, 0, 1)
-    };
     Both {
-        flash: Left {
-            bytes: flash,
-            end: flash_end,
-        },
-        fram: Left {
-            bytes: fram,
-            end: fram_end,
-        },
+        flash: torn_erase_in::<FlashCells>(),
+        fram: torn_erase_in::<FramCells>(),
     }
 }
 
-// A segment full of 0x05, erased with no cut, and three bytes written.
+// A segment full of 0x05, erased with no cut, and three bytes written, in one technology.
+fn whole_run_in<C: Cells>(written: [u8; 3]) -> Left
+    ensures bytes { result.bytes ≡ replicate 3 0xFF ++ written ++ replicate 506 0xFF ++ replicate 88 0x05 }
+    ensures end { result.end ≡ Ok tt }
+{
+    // An array of its own: past a `&[]` in the call, a proof does not know what the bytes are left as.
+    let cuts: [Cut; 0] = [];
+    let mut bytes = [0x05; 600];
+    let mut memory: Simulated<C> = Simulated::new(&mut bytes, &cuts);
+    let _ = erase_all(&mut memory, 0, 1);
+    let end = write_all(&mut memory, 3, &written);
+    Left { bytes, end }
+}
+
+// The same in both, with other bytes in each.
 pub fn whole_run() -> Both
     ensures flash_bytes { result.flash.bytes ≡ slice_set (slice_set (slice_set (replicate 512 0xFF) 3 1) 4 2) 5 3 ++ replicate 88 0x05 }
     ensures flash_end { result.flash.end ≡ Ok tt }
     ensures fram_bytes { result.fram.bytes ≡ slice_set (slice_set (slice_set (replicate 512 0xFF) 3 4) 4 5) 5 6 ++ replicate 88 0x05 }
     ensures fram_end { result.fram.end ≡ Ok tt }
 {
-    let cuts: [Cut; 0] = [];
-    let mut flash = [0x05; 600];
-    let mut fram = [0x05; 600];
-    let flash_end = {
-        let mut memory = Flash::new(&mut flash, &cuts);
-        let _ = erase_all(&mut memory, 0, 1);
-        write_all(&mut memory, 3, &[1, 2, 3])
-    };
-    let fram_end = {
-        let mut memory = Fram::new(&mut fram, &cuts);
-        let _ = erase_all(&mut memory, 0, 1);
-        write_all(&mut memory, 3, &[4, 5, 6])
-    };
     Both {
-        flash: Left {
-            bytes: flash,
-            end: flash_end,
-        },
-        fram: Left {
-            bytes: fram,
-            end: fram_end,
-        },
+        flash: whole_run_in::<FlashCells>([1, 2, 3]),
+        fram: whole_run_in::<FramCells>([4, 5, 6]),
     }
 }

@@ -10,7 +10,7 @@ use Rattle.memory.specs.declared.Fault.TheVariants.{SupplyLost}
 
 -- a finished end is no refusal
 pub not_refused : {A : Type 0} {f : Fault} {r : End} → r ≡ Ok tt → r ≡ Err f → A
-not_refused e g = let z : ◌≡◌ {A = ℕ} 0 1 = cc in let never : ⊥ = omega arith in absurd never
+not_refused e g = absurd cc
 
 -- what two steps in a row leave as it was, and where the bounds are wider
 pub apart_same : {lo hi : ℕ} {s t : State} → t ≡ s → Apart lo hi s t
@@ -138,7 +138,7 @@ module _ {M : Type 0} {make : Make M} (laws : Laws make) where
 
   all_written : (bytes : List ℕ) (place : ℕ) {m n : M} {r : End}
       → Ran make (writes place bytes) m n r → r ≡ Ok tt → Written place bytes (known m) (known n)
-  all_written [] place h ok i lt = let never : ⊥ = omega arith in absurd never
+  all_written [] place h ok i lt = absurd (omega arith)
   all_written (byte ∷ bytes) place (stop f h a) ok i lt = not_refused ok a
   all_written (byte ∷ bytes) place {m} {n} (more {n = o} h rest) ok i lt =
       written_more place byte bytes m o n h (writes_above place bytes rest) (all_written bytes (place + 1) rest ok) i lt
@@ -148,7 +148,7 @@ module _ {M : Type 0} {make : Make M} (laws : Laws make) where
   lost_at {c} {m} {n} {r} p h is = by (laws.change c m n r h)
     where
       by : Changed c (known m) (known n) r → p ≡ first c
-      by (past x e a) = let z : ◌≡◌ {A = ℕ} 0 1 = cc in let never : ⊥ = omega arith in absurd never
+      by (past x e a) = absurd cc
       by (off x y e a) = cc
       by (finished x y u b w a) = not_refused a is
       by (torn x y u b a) = cc
@@ -162,7 +162,7 @@ module _ {M : Type 0} {make : Make M} (laws : Laws make) where
         count = 0;
         here = omega arith;
         within = omega arith;
-        written = λ i lt. let never : ⊥ = omega arith in absurd never;
+        written = λ i lt. absurd (omega arith);
         later = λ q lt. (changed_apart (laws.change (write place byte) m n _ h)).outside q (inr (omega arith));
       }
   writing_lost (byte ∷ bytes) place {m} {n} p (more {n = o} h rest) is =
@@ -191,7 +191,7 @@ module _ {M : Type 0} {make : Make M} (laws : Laws make) where
       (ran_apart h (512 * (segment + 1)) (512 * (segment + 1 + n)) (erases_within _ _ (segment + 1) n (omega arith) (omega arith))).outside q (inl lt)
 
   all_erased : (n segment : ℕ) {m o : M} {r : End} → Ran make (erases segment n) m o r → r ≡ Ok tt → Erased segment n (known o)
-  all_erased zero segment h ok q l u = let never : ⊥ = omega arith in absurd never
+  all_erased zero segment h ok q l u = absurd (omega arith)
   all_erased (suc n) segment (stop f h a) ok q l u = not_refused ok a
   all_erased (suc n) segment {m} {o} (more {n = k} h rest) ok q l u =
       erased_more segment n m k o h (erases_above segment n rest) (all_erased n (segment + 1) rest ok) q l u
@@ -205,7 +205,7 @@ module _ {M : Type 0} {make : Make M} (laws : Laws make) where
         count = 0;
         here = omega arith;
         within = omega arith;
-        erased = λ q l u. let never : ⊥ = omega arith in absurd never;
+        erased = λ q l u. absurd (omega arith);
         later = λ q lt. (changed_apart (laws.change (erase segment) m o _ h)).outside q (inr (omega arith));
       }
   erasing_lost (suc n) segment {m} {o} p (more {n = k} h rest) is =

@@ -1,5 +1,5 @@
 -- A change of a memory, and how it may come out.
-use Rattle.std.specs.Prelude.{◌≡◌, ℕ, ◌+◌, ◌*◌, ◌<◌, ◌≤◌, true, false, ◌⊎◌, Ok, Err, Result}
+use Rattle.std.specs.Prelude.{◌≡◌, ℕ, ◌+◌, ◌*◌, ◌<◌, ◌≤◌, true, false, ◌⊎◌, Ok, Err, Result, List, ◌++◌, codes, decimal}
 use Rattle.memory.specs.State.{State, size, at}
 use Rattle.memory.specs.declared.Fault.{Fault}
 use Rattle.memory.specs.declared.Fault.TheVariants.{PastEnd, SupplyLost}
@@ -32,6 +32,11 @@ End = Result Unit Fault
 abbrev pub fault_number : Fault → ℕ
 fault_number (SupplyLost place) = 2
 fault_number PastEnd = 3
+
+-- what is printed of each
+abbrev pub fault_text : Fault → List ℕ
+fault_text (SupplyLost place) = codes "supply lost at " ++ decimal place
+fault_text PastEnd = codes "past the end"
 
 -- the places from lo up and below hi may have been touched; size, mixing and every other byte are as they were
 pub record Apart (lo hi : ℕ) (s t : State) : Type 0 where

@@ -1,20 +1,24 @@
 // A memory whose supply may fail in any change, and changes made in turn over any such memory.
 #![tactic(auto)]
 
-ghost use Rattle.std.specs.Prelude.{◌≡◌};
+ghost use Rattle.std.specs.Prelude.{◌≡◌, Some};
 ghost use Rattle.memory.specs.State.{size as the_size, at};
-ghost use Rattle.memory.specs.Change.{write, erase, fault_number};
+ghost use Rattle.memory.specs.Change.{write, erase, fault_number, fault_text};
 ghost use Rattle.memory.specs.Make.{Make, Laws};
 ghost use Rattle.memory.specs.Ran.{Wrote, Cleared};
 
+use std::error::Error;
+use std::fmt;
+
 // Why a change is refused. A lost supply comes with the first place that the change would have touched.
-#[derive(Clone, Copy, Debug, PartialEq)]
+#[derive(Clone, Copy, Debug, PartialEq, Eq)]
 pub enum Fault {
     SupplyLost(usize),
     PastEnd,
 }
 
 impl Fault {
+    // A method and no conversion into a number: the place is dropped.
     pub fn number(self) -> u8
         ensures { result ≡ fault_number self }
     {
@@ -25,11 +29,22 @@ impl Fault {
     }
 }
 
+impl fmt::Display for Fault {
+    ghost output = { λ fault. Some (fault_text fault) };
+
+    fn fmt<W: fmt::Write>(&self, f: &mut fmt::Formatter<W>) -> fmt::Result {
+        match *self {
+            Fault::SupplyLost(place) => write!(f, "supply lost at {place}"),
+            Fault::PastEnd => write!(f, "past the end"),
+        }
+    }
+}
+
+impl Error for Fault {}
+
 pub trait Memory {
     // What is known of a memory, and how a change and the return of its supply come out.
     ghost make: { Make Self };
-
-    ghost laws: { Laws make };
 
     fn size(&self) -> usize
         ensures { result ≡ the_size (make.state self.now) };
@@ -46,6 +61,9 @@ pub trait Memory {
     // The supply returns.
     fn restore(&mut self)
         ensures { make.restores self.old self.new };
+
+    // What each memory has to show.
+    ghost laws: { Laws make };
 }
 
 // Writes bytes one after the other from a place up, until one is refused.

@@ -18,8 +18,8 @@ exact cells C (c ∷ cs) m n r (more {n = o} h rest) = exact cells C cs o n r re
 
 -- a new memory, written out
 pub fresh_is : {C : Type 0} (bytes : MutBor (List ℕ)) (cuts : Bor (List Cut)) (m : Simulated C) → Fresh bytes cuts m
-    → m ≡ record { bytes = bytes; cuts = cuts; next = 0; finished = 0; on = true; cells = m.cells }
-fresh_is bytes cuts m f = λ i. record { bytes = f.over i; cuts = f.with i; next = f.next i; finished = f.finished i; on = f.on i; cells = m.cells }
+    → m ≡ record { bytes = bytes; cuts = cuts; finished = 0; on = true; cells = m.cells }
+fresh_is bytes cuts m f = λ i. record { bytes = f.over i; cuts = f.with i; finished = f.finished i; on = f.on i; cells = m.cells }
 
 -- what a memory is after a list of changes, and how they ended, if it is known what it was
 pub ran_from : {C : Type 0} (cells : Cells) (cs : List Change) (m x n : Simulated C) (r : End) → m ≡ x → Ran (simulated cells) cs m n r

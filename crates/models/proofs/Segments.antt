@@ -1,20 +1,11 @@
--- Parts of a slice that were written as a whole: the front of a segment, and a segment of a memory's bytes.
-use Rattle.std.proofs.Common.{◌≡◌, ℕ, ◌+◌, ◌-◌, ◌*◌, min, List, ◌++◌, length, take, drop, replicate, ap, ◌∙◌, ap₂, arith, length-take}
-use borrow.Rule.Slice.PartMut.{post_of, put_mid}
+-- A segment of a memory's bytes that was written as a whole.
+use Rattle.std.proofs.Common.{◌≡◌, ℕ, ◌+◌, ◌-◌, ◌*◌, List, ◌++◌, take, ap, ◌∙◌, arith}
+use borrow.Rule.Slice.PartMut.{put_mid}
 use Rattle.std.proofs.lemmas.List.{drop-drop}
 use Rattle.memory.specs.Change.{erase, End}
 use Rattle.models.specs.Cells.{Cells}
-use Rattle.models.specs.Simulated.{fate, counted, holding, put, met, changed}
-use Rattle.models.specs.declared.simulated.Fate.{Fate}
+use Rattle.models.specs.Simulated.{Fate, fate, counted, holding, put, met, changed}
 use Rattle.models.specs.declared.simulated.Simulated.{Simulated}
-
-pub filled_front : (segment : List ℕ) (reached t : ℕ) (front : List ℕ) → reached ≡ min t (length segment)
-    → front ≡ replicate (length (take (reached - 0) segment)) 0xFF
-    → front ++ post_of 0 (reached - 0) segment ≡ replicate (min t (length segment)) 0xFF ++ drop (min t (length segment)) segment
-filled_front segment reached t front e f =
-    let long : length (take (reached - 0) segment) ≡ min t (length segment) = simp length-take (omega arith) in
-    let from : reached - 0 ≡ min t (length segment) = omega arith in
-    ap₂ (λ (a b : List ℕ). a ++ b) (f ∙ ap (λ n. replicate n 0xFF) long) (ap (λ n. drop n segment) from)
 
 mid_put : (place n : ℕ) (bytes new segment : List ℕ) → n ≡ 512 → new ≡ segment → put_mid place n bytes new ≡ put bytes place segment
 mid_put place n bytes new segment e f = rw (f, e) (ap (λ t. take place bytes ++ (segment ++ t)) (drop-drop 512 place bytes))

@@ -1,16 +1,15 @@
 -- A simulated memory over bytes and a list of cuts that its caller holds: what each change leaves, exactly.
-use Rattle.std.specs.Prelude.{◌≡◌, ℕ, ◌+◌, ◌*◌, ◌/◌, ◌%◌, ◌<◌, min, Bool, true, false, cond, ◌&&◌, List, [], ◌∷◌, ◌++◌, map, length, take, drop, replicate, Ok, Err, nat_le, nat_lt, slice_index, slice_index_or, slice_set}
+use Rattle.std.specs.Prelude.{◌≡◌, ℕ, ◌+◌, ◌*◌, ◌/◌, ◌%◌, ◌<◌, min, true, false, cond, List, [], ◌∷◌, ◌++◌, map, length, take, drop, replicate, Option, Some, None, Result, Ok, Err, nat_le, nat_lt, slice_index, slice_set}
 use denote.Bor.{Bor}
 use denote.Ref.{at_last, MutBor}
 use Rattle.memory.specs.State.{State}
 use Rattle.memory.specs.Change.{Change, write, erase, first, span, End}
 use Rattle.memory.specs.Make.{Make}
 use Rattle.memory.specs.Ran.{Ran}
+use Rattle.memory.specs.declared.Fault.{Fault}
 use Rattle.memory.specs.declared.Fault.TheVariants.{PastEnd, SupplyLost}
 use Rattle.models.specs.Cells.{Cells}
 use Rattle.models.specs.declared.simulated.Cut.{Cut}
-use Rattle.models.specs.declared.simulated.Fate.{Fate}
-use Rattle.models.specs.declared.simulated.Fate.TheVariants as F
 use Rattle.models.specs.declared.simulated.Simulated.{Simulated}
 
 -- whole segments of 512 bytes, at most 105 of them
@@ -21,49 +20,46 @@ whole n = 512 * min 105 (n / 512)
 abbrev pub room : List ℕ → ℕ
 room bytes = whole (length bytes)
 
--- the change touches its places
-abbrev pub Touches : Fate → Type 0
-Touches F.PastEnd = ⊥
-Touches F.Off = ⊥
-Touches (F.Torn pattern) = Unit {0}
-Touches F.Finishes = Unit {0}
+-- what becomes of a change: it is refused, or begun, and then torn under a pattern or finished
+abbrev pub Fate : Type 0
+Fate = Result (Option ℕ) Fault
 
 -- the bytes in use, each number taken as a byte
 abbrev pub view : List ℕ → List ℕ
 view bytes = map (λ byte. byte % 256) (take (room bytes) bytes)
 
+-- the pattern that tears the next change: the first of the cuts that are left is due once as many changes have finished as it counts
+abbrev pub due : List Cut → (finished : ℕ) → Option ℕ
+due [] finished = None
+due (cut ∷ cuts) finished = cond (nat_le cut.count finished) (Some cut.pattern) None
+
+-- the cuts after the first: the slice of them begins a cut of 8 bytes further up
+abbrev pub later : Bor (List Cut) → Bor (List Cut)
+later cuts = record { ref_ptr = (cuts.ref_ptr.0, 8 + cuts.ref_ptr.1); now = drop 1 cuts.now }
+
+-- finished changes are counted as long as a cut is left
+abbrev pub one_more : List Cut → (finished : ℕ) → ℕ
+one_more [] finished = finished
+one_more (cut ∷ cuts) finished = finished + 1
+
 module _ {C : Type 0} where
-  -- the cut that comes next
-  abbrev pub coming : Simulated C → Cut
-  coming m = slice_index_or m.cuts.now m.next (record { count = 0; pattern = 0 })
-
-  -- a cut is still to come
-  abbrev pub armed : Simulated C → Bool
-  armed m = nat_lt m.next (length m.cuts.now)
-
-  -- the next change is torn: as many changes have finished since the making or the last cut as the coming cut counts
-  abbrev pub due : Simulated C → Bool
-  due m = armed m && nat_le (coming m).count m.finished
-
   -- what becomes of a change of n places from one up, in the order of the tests
   abbrev pub fate : (place n : ℕ) → Simulated C → Fate
   fate place n m =
-      cond (nat_lt (room m.bytes.now) (place + n)) F.PastEnd
-      (cond m.on (cond (due m) (F.Torn (coming m).pattern) F.Finishes) F.Off)
+      cond (nat_lt (room m.bytes.now) (place + n)) (Err PastEnd)
+      (cond m.on (Ok (due m.cuts.now m.finished)) (Err (SupplyLost place)))
 
   -- the counters once a change has met its fate: a torn one uses up its cut and takes the supply with it, a finished one counts
   abbrev pub counted : Fate → Simulated C → Simulated C
-  counted F.PastEnd m = m
-  counted F.Off m = m
-  counted (F.Torn pattern) m =
-      record { bytes = m.bytes; cuts = m.cuts; next = m.next + 1; finished = 0; on = false; cells = m.cells }
-  counted F.Finishes m =
-      record { bytes = m.bytes; cuts = m.cuts; next = m.next; finished = cond (armed m) (m.finished + 1) m.finished; on = m.on; cells = m.cells }
+  counted (Err fault) m = m
+  counted (Ok (Some pattern)) m = record { bytes = m.bytes; cuts = later m.cuts; finished = 0; on = false; cells = m.cells }
+  counted (Ok None) m =
+      record { bytes = m.bytes; cuts = m.cuts; finished = one_more m.cuts.now m.finished; on = m.on; cells = m.cells }
 
   -- the same memory with other bytes in its caller's slice
   abbrev pub holding : List ℕ → Simulated C → Simulated C
   holding bytes m =
-      record { bytes = at_last m.bytes bytes; cuts = m.cuts; next = m.next; finished = m.finished; on = m.on; cells = m.cells }
+      record { bytes = at_last m.bytes bytes; cuts = m.cuts; finished = m.finished; on = m.on; cells = m.cells }
 
 -- 512 bytes put in place from one up
 abbrev pub put : List ℕ → ℕ → List ℕ → List ℕ
@@ -89,11 +85,9 @@ module _ (cells : Cells) where
   module _ {C : Type 0} where
     -- a change, by its fate: the memory that it leaves, and how it ends
     abbrev pub met : Fate → Change → Simulated C → Simulated C × End
-    met F.PastEnd c m = (m, Err PastEnd)
-    met F.Off c m = (m, Err (SupplyLost (first c)))
-    met (F.Torn pattern) c m =
-        (holding (torn pattern c m.bytes.now) (counted (F.Torn pattern) m), Err (SupplyLost (first c)))
-    met F.Finishes c m = (holding (done c m.bytes.now) (counted F.Finishes m), Ok tt)
+    met (Err fault) c m = (m, Err fault)
+    met (Ok (Some pattern)) c m = (holding (torn pattern c m.bytes.now) (counted (Ok (Some pattern)) m), Err (SupplyLost (first c)))
+    met (Ok None) c m = (holding (done c m.bytes.now) (counted (Ok None) m), Ok tt)
 
     abbrev pub changed : Change → Simulated C → Simulated C × End
     changed c m = met (fate (first c) (span c) m) c m
@@ -105,7 +99,7 @@ module _ (cells : Cells) where
 
     -- the supply is on again, and nothing else is new
     abbrev pub restored : Simulated C → Simulated C
-    restored m = record { bytes = m.bytes; cuts = m.cuts; next = m.next; finished = m.finished; on = true; cells = m.cells }
+    restored m = record { bytes = m.bytes; cuts = m.cuts; finished = m.finished; on = true; cells = m.cells }
 
     -- what is known of it
     abbrev pub known : Simulated C → State
@@ -128,6 +122,5 @@ Exact cells C =
 pub record Fresh {C : Type 0} (bytes : MutBor (List ℕ)) (cuts : Bor (List Cut)) (m : Simulated C) : Type 0 where
   pub over : m.bytes ≡ bytes
   pub with : m.cuts ≡ cuts
-  pub next : m.next ≡ 0
   pub finished : m.finished ≡ 0
   pub on : m.on ≡ true

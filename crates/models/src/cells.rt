@@ -7,8 +7,6 @@ ghost use Rattle.models.specs.Technologies.{flash_sound, fram_sound};
 pub trait Cells {
     ghost rules: { CellRules };
 
-    ghost sound: { Sound rules };
-
     fn mix(old: u8, new: u8) -> u8
         ensures { result ≡ rules.mix old new };
 
@@ -17,9 +15,12 @@ pub trait Cells {
 
     fn torn_erase(pattern: u16, segment: &mut [u8])
         ensures { segment.new ≡ rules.torn_erase pattern segment.old };
+
+    // What each technology has to show.
+    ghost sound: { Sound rules };
 }
 
-#[derive(Drop)]
+#[derive(Clone, Copy)]
 pub struct FlashCells;
 
 impl Cells for FlashCells {
@@ -44,7 +45,7 @@ impl Cells for FlashCells {
     }
 }
 
-#[derive(Drop)]
+#[derive(Clone, Copy)]
 pub struct FramCells;
 
 impl Cells for FramCells {
@@ -62,6 +63,6 @@ impl Cells for FramCells {
 
     fn torn_erase(pattern: u16, segment: &mut [u8]) {
         let reached = usize::from(pattern % 512).min(segment.len());
-        segment[0..reached].fill(0xFF);
+        segment[..reached].fill(0xFF);
     }
 }

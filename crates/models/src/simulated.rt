@@ -1,6 +1,6 @@
 // What flash and FRAM share: size, refusals, and the counting of cuts.
-ghost use Rattle.std.specs.Prelude.{◌≡◌, ◌+◌, ◌≤◌};
-ghost use Rattle.models.specs.Simulated.{whole, room, fate as the_fate, counted as the_counted, Touches, Fresh};
+ghost use Rattle.std.specs.Prelude.{◌≡◌, ◌+◌, ◌≤◌, OnOk};
+ghost use Rattle.models.specs.Simulated.{room as the_room, fate, counted as the_counted, Fresh};
 ghost use Rattle.models.specs.Simulated.{simulated};
 ghost use Rattle.models.specs.Kept.{simulated_laws};
 
@@ -9,26 +9,17 @@ use memory::{Fault, Memory};
 use std::marker::PhantomData;
 
 // After so many finished changes the next one is torn, in the way that the pattern says.
-#[derive(Clone, Copy, Debug)]
+#[derive(Clone, Copy, Debug, PartialEq, Eq)]
 pub struct Cut {
     pub count: u32,
     pub pattern: u16,
 }
 
-// What becomes of a change.
-#[derive(Clone, Copy)]
-enum Fate {
-    PastEnd,
-    Off,
-    Torn(u16),
-    Finishes,
-}
-
+// A memory over a caller's bytes. Those of the caller's cuts that are still to come are left in `cuts`.
 #[derive(Drop)]
 pub struct Simulated<'b, 'c, C> {
     bytes: &'b mut [u8],
     cuts: &'c [Cut],
-    next: usize,
     finished: u32,
     on: bool,
     cells: PhantomData<C>,
@@ -42,45 +33,44 @@ impl<'b, 'c, C> Simulated<'b, 'c, C> {
         Simulated {
             bytes,
             cuts,
-            next: 0,
             finished: 0,
             on: true,
             cells: PhantomData,
         }
     }
 
-    // What becomes of a change of so many places from one up. The counters and the supply go on accordingly.
-    fn begin(&mut self, place: usize, count: usize) -> Fate
-        ensures fate { result ≡ the_fate place count self.old }
-        ensures counted { self.new ≡ the_counted result self.old }
-        ensures within { Touches result → place + count ≤ room self.old.bytes.now }
+    // How many bytes are used: whole segments of 512, at most 105 of them.
+    fn room(&self) -> usize
+        ensures { result ≡ the_room self.now.bytes.now }
     {
-        let room = room_of(self.bytes.len());
-        if room < count || room - count < place {
-            return Fate::PastEnd;
+        512 * (self.bytes.len() / 512).min(105)
+    }
+
+    // Begins a change of so many places from one up: the pattern that tears it, if one does. The counters and the supply go on
+    // accordingly.
+    fn begin(&mut self, place: usize, span: usize) -> Result<Option<u16>, Fault>
+        ensures fate { result ≡ fate place span self.old }
+        ensures counted { self.new ≡ the_counted result self.old }
+        ensures within { OnOk result (place + span ≤ the_room self.old.bytes.now) }
+    {
+        let room = self.room();
+        if room < span || room - span < place {
+            return Err(Fault::PastEnd);
         }
         if !self.on {
-            return Fate::Off;
+            return Err(Fault::SupplyLost(place));
         }
-        if self.next < self.cuts.len() {
-            let cut = self.cuts[self.next];
-            if cut.count <= self.finished {
-                self.next += 1;
+        if let [Cut { count, pattern }, later @ ..] = self.cuts {
+            if *count <= self.finished {
+                self.cuts = later;
                 self.finished = 0;
                 self.on = false;
-                return Fate::Torn(cut.pattern);
+                return Ok(Some(*pattern));
             }
             self.finished += 1;
         }
-        Fate::Finishes
+        Ok(None)
     }
-}
-
-// Whole segments of 512 bytes, at most 105 of them.
-fn room_of(length: usize) -> usize
-    ensures { result ≡ whole length }
-{
-    512 * (length / 512).min(105)
 }
 
 impl<'b, 'c, C: Cells> Memory for Simulated<'b, 'c, C> {
@@ -89,11 +79,11 @@ impl<'b, 'c, C: Cells> Memory for Simulated<'b, 'c, C> {
     ghost laws = { simulated_laws C.Cells.rules C.Cells.sound };
 
     fn size(&self) -> usize {
-        room_of(self.bytes.len())
+        self.room()
     }
 
     fn read(&self, place: usize) -> u8 {
-        if place < room_of(self.bytes.len()) {
+        if place < self.room() {
             self.bytes[place]
         } else {
             0xFF
@@ -101,14 +91,12 @@ impl<'b, 'c, C: Cells> Memory for Simulated<'b, 'c, C> {
     }
 
     fn write(&mut self, place: usize, byte: u8) -> Result<(), Fault> {
-        match self.begin(place, 1) {
-            Fate::PastEnd => Err(Fault::PastEnd),
-            Fate::Off => Err(Fault::SupplyLost(place)),
-            Fate::Torn(pattern) => {
+        match self.begin(place, 1)? {
+            Some(pattern) => {
                 self.bytes[place] = C::torn_write(pattern, self.bytes[place], byte);
                 Err(Fault::SupplyLost(place))
             }
-            Fate::Finishes => {
+            None => {
                 self.bytes[place] = C::mix(self.bytes[place], byte);
                 Ok(())
             }
@@ -117,15 +105,15 @@ impl<'b, 'c, C: Cells> Memory for Simulated<'b, 'c, C> {
 
     fn erase(&mut self, segment: usize) -> Result<(), Fault> {
         let place = segment.saturating_mul(512);
-        match self.begin(place, 512) {
-            Fate::PastEnd => Err(Fault::PastEnd),
-            Fate::Off => Err(Fault::SupplyLost(place)),
-            Fate::Torn(pattern) => {
-                C::torn_erase(pattern, &mut self.bytes[place..place + 512]);
+        let torn = self.begin(place, 512)?;
+        let places = &mut self.bytes[place..place + 512];
+        match torn {
+            Some(pattern) => {
+                C::torn_erase(pattern, places);
                 Err(Fault::SupplyLost(place))
             }
-            Fate::Finishes => {
-                self.bytes[place..place + 512].fill(0xFF);
+            None => {
+                places.fill(0xFF);
                 Ok(())
             }
         }

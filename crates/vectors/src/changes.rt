@@ -2,9 +2,10 @@
 use crc::CrcCcitt;
 use hex_digits::{HexByte, HexWord};
 use memory::{Fault, Memory};
-use models::{Cut, Flash, FlashCells, Fram, FramCells};
+use models::{Cells, Cut, FlashCells, FramCells, Simulated};
 
-#[derive(Clone, Copy)]
+// What is done to a memory: data and no closure, since it is told as well as done.
+#[derive(Clone, Copy, Debug)]
 enum Op {
     Write(usize, u8),
     Erase(usize),
@@ -13,7 +14,7 @@ enum Op {
 }
 
 // A caller's bytes, by their number and what they hold at first, its cuts, and what is done in turn.
-#[derive(Clone, Copy)]
+#[derive(Clone, Copy, Debug)]
 struct Scenario {
     name: &'static str,
     length: usize,
@@ -210,14 +211,7 @@ fn told(rt: &HostRuntime, ended: Result<(), Fault>, byte: u8) -> anyhow::Result<
         Ok(()) => println!(rt; "finished, reads 0x{byte}")?,
         Err(fault) => {
             let number = fault.number();
-            match fault {
-                Fault::SupplyLost(place) => println!(rt;
-                    "refused with {number}, supply lost at {place}, reads 0x{byte}"
-                )?,
-                Fault::PastEnd => println!(rt;
-                    "refused with {number}, past the end, reads 0x{byte}"
-                )?,
-            }
+            println!(rt; "refused with {number}, {fault}, reads 0x{byte}")?;
         }
     }
     Ok(())
@@ -259,27 +253,20 @@ fn ended(rt: &HostRuntime, bytes: &[u8]) -> anyhow::Result<()> {
     Ok(())
 }
 
-fn both(rt: &HostRuntime, scenario: Scenario) -> anyhow::Result<()> {
+// A scenario in one technology.
+fn act<C: Cells>(rt: &HostRuntime, scenario: Scenario, technology: &str) -> anyhow::Result<()> {
     let name = scenario.name;
+    println!(rt; "{name}, {technology}")?;
     let mut bytes = vec![in rt.alloc(); scenario.fill; scenario.length]?;
-    println!(rt; "{name}, flash")?;
-    {
-        let mut memory = Flash::new(bytes.as_mut_slice(), scenario.cuts);
-        play(rt, &mut memory, scenario.ops)?;
-    }
-    ended(rt, bytes.as_slice())?;
-    let mut bytes = vec![in rt.alloc(); scenario.fill; scenario.length]?;
-    println!(rt; "{name}, FRAM")?;
-    {
-        let mut memory = Fram::new(bytes.as_mut_slice(), scenario.cuts);
-        play(rt, &mut memory, scenario.ops)?;
-    }
+    let mut memory: Simulated<C> = Simulated::new(bytes.as_mut_slice(), scenario.cuts);
+    play(rt, &mut memory, scenario.ops)?;
     ended(rt, bytes.as_slice())
 }
 
 pub fn run(rt: &HostRuntime) -> anyhow::Result<()> {
     for scenario in scenarios() {
-        both(rt, scenario)?;
+        act::<FlashCells>(rt, scenario, "flash")?;
+        act::<FramCells>(rt, scenario, "FRAM")?;
     }
     Ok(())
 }

@@ -8,7 +8,7 @@ pub returns : goal.returns
 returns g c =
     let accepts = accepted g.C.ImageCheck.check in
     record {
-      rule = rule (framed accepts g.A.Memory.make) (framed accepts g.B.Memory.make) frames_law g.A.Memory.laws frames_law g.B.Memory.laws;
+      rule = rule (framed accepts g.A.Memory.make) (framed accepts g.B.Memory.make) frames_law g.met.A.Memory.laws frames_law g.met.B.Memory.laws;
       first = c.run-a.ensures;
       second = c.run-b.ensures;
     }

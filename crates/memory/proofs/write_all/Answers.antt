@@ -8,17 +8,17 @@ pub loop-i-preserved : goal.loop-i-preserved
 loop-i-preserved g c =
     let h = c.in_ok-write.ensures in (
       leads_next (writes_next c.args.place c.args.bytes.now c.loop-i.i (omega arith)) c.loop-i.invariant.0 h,
-      inr (omega (arith, finished_low g.M.Memory.laws h)),
+      inr (omega (arith, finished_low g.met.M.Memory.laws h)),
     )
 
 pub returns-in_err-write : goal.returns-in_err-write
 returns-in_err-write g c =
     let p = err_from_is_err_and c.from_residual.result c.from_residual.ensures.1 in
     rw (p.1, p.2)
-    (wrote g.M.Memory.laws c.args.place c.args.bytes.now
+    (wrote g.met.M.Memory.laws c.args.place c.args.bytes.now
     (leads_stop _ (writes_next c.args.place c.args.bytes.now c.loop-i.i (omega arith)) c.loop-i.invariant.0 c.in_err-write.ensures))
 
 pub returns : goal.returns
 returns g c =
-    wrote g.M.Memory.laws c.args.place c.args.bytes.now
+    wrote g.met.M.Memory.laws c.args.place c.args.bytes.now
     (leads_end (writes_end c.args.place c.args.bytes.now c.loop-i.i (omega arith)) c.loop-i.invariant.0)

@@ -7,4 +7,4 @@ pub returns : goal.returns
 returns g c =
     let accepts = accepted g.C.ImageCheck.check in
     rule (engine g.U.HostBus.bus accepts g.A.Memory.make) (engine g.V.HostBus.bus accepts g.B.Memory.make)
-    g.U.HostBus.law g.A.Memory.laws g.V.HostBus.law g.B.Memory.laws
+    g.U.HostBus.law g.met.A.Memory.laws g.V.HostBus.law g.met.B.Memory.laws

@@ -9,9 +9,3 @@ loop-byte-preserved c =
     let lt : c.loop-byte.byte-index < length c.loop-byte.segment = omega arith in
     map_over_more (λ byte. bit_or byte (get_or c.to_le_bytes.result 0 0)) c.args.segment.now c.loop-byte.segment c.loop-byte.byte-index _
     (omega arith) c.loop-byte.invariant (get_or_default _ _ 0 _ lt)
-
-pub returns : goal.returns
-returns c =
-    c.loop-byte.invariant
-    ∙ rw (take_all c.loop-byte.byte-index c.args.segment.now (omega arith), drop_all c.loop-byte.byte-index c.args.segment.now (omega arith)) (append-nil _)
-    ∙ ap (λ low. map (λ byte. bit_or byte (get_or low 0 0)) c.args.segment.now) c.to_le_bytes.ensures
