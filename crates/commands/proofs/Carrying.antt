@@ -1,25 +1,11 @@
--- Effects carried out, by what the code tests.
-use Rattle.std.proofs.Common.{◌≡◌, ℕ, ◌+◌, ◌-◌, ◌/◌, ◌%◌, ◌<◌, ◌≤◌, ◌&&◌, eqb, ltb, leb, List, [], ◌∷◌, length, Ok, Err, sym, refl, ap, ◌∙◌, arith}
+-- The effects of the commands with an address, by what the code tests.
+use Rattle.std.proofs.Common.{◌≡◌, ℕ, ◌+◌, ◌-◌, ◌/◌, ◌%◌, ◌<◌, ◌≤◌, ◌&&◌, eqb, ltb, leb, List, [], ◌∷◌, length, refl, ap, ◌∙◌, arith}
 use Rattle.std.proofs.lemmas.Bool.{cond-true, cond_both, le-leb, lt-ltb, eq-eqb, and_from, and_parts, leb-true, ltb-true, eqb-true}
 use Rattle.memory.specs.Change.{erase}
-use Rattle.memory.specs.Make.{Make}
-use Rattle.memory.specs.Ran.{Ran}
-use Rattle.memory.specs.declared.Fault.{Fault}
-use Rattle.memory.proofs.Effects.{ran_as}
 use Rattle.layout.specs.Areas.{address, application_place, application_size}
 use Rattle.layout.specs.declared.divided.Layout.{Layout}
-use Rattle.rule.specs.Command.{Effect, effect, erase_segment, write_block}
+use Rattle.rule.specs.Command.{effect, erase_segment, write_block}
 use Rattle.words.specs.declared.Answer.TheVariants.{Done, InvalidParams}
-use Rattle.commands.specs.Obeyed.{response, Carried}
-use Rattle.commands.specs.declared.Response.{Response}
-
--- an equal effect is carried out in the same way
-module _ {M : Type 0} {make : Make M} {e : Effect} (f : Effect) (same : f ≡ e) {m n : M} where
-  pub carried_done : {x : Response} → Ran make e.changes m n (Ok tt) → x ≡ response e → Carried make f m n (Ok x)
-  carried_done ran is = (ran_as (ap (λ v. v.changes) (sym same)) ran, is ∙ ap response (sym same))
-
-  pub carried_lost : {x : Fault} → Ran make e.changes m n (Err x) → Carried make f m n (Err x)
-  carried_lost ran = ran_as (ap (λ v. v.changes) (sym same)) ran
 
 module _ (l : Layout) (from : ℕ) where
   abbrev base : ℕ

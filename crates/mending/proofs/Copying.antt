@@ -109,10 +109,3 @@ module _ {M : Type 0} {make : Make M} (laws : Laws make) (l : Layout) (start : M
 
   pub copying_all : (i : ℕ) (m : M) → l.k ≤ i → Copying make l start i m → Ran make (copies l xs 0 l.k) start m (Ok tt)
   copying_all i m h c = leads_end (copies_end l xs l.k i h) c.leads
-
--- which changes a restart makes, by the mark
-pub mends_erased : (l : Layout) (xs : List ℕ) → mark xs ≡ 0xFF → mends l xs ≡ []
-mends_erased l xs e = rw e refl
-
-pub mends_approved : (l : Layout) (xs : List ℕ) → mark xs ≡ 0x5A → mends l xs ≡ copies l xs 0 l.k ++ clears l
-mends_approved l xs e = rw e refl
