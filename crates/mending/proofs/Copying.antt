@@ -12,9 +12,9 @@ use Rattle.memory.specs.Ran.{Ran, none, stop, more, writes, Within}
 use Rattle.memory.specs.declared.Fault.{Fault}
 use Rattle.memory.proofs.Effects.{not_refused, ran_as, ran_size, ran_apart, writes_within}
 use Rattle.memory.proofs.Turns.{Leads, leads_end}
-use Rattle.layout.specs.Areas.{part, mark, size as whole_size}
+use Rattle.layout.specs.Areas.{part, size as whole_size}
 use Rattle.layout.specs.declared.divided.Layout.{Layout}
-use Rattle.rule.specs.Restart.{copy, copies, clears, mends}
+use Rattle.rule.specs.Restart.{copy, copies}
 use Rattle.rule.proofs.Areas.{part_length, part_at, part_same}
 use Rattle.mending.specs.Mended.{segment_copy}
 

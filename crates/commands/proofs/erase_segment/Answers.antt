@@ -6,7 +6,6 @@ use Rattle.commands.proofs.erase_segment.Goals.{in_default-via-in-Some+then-offs
 
 pub returns-in_err-erase-in-Some : goal.returns-in_err-erase-in-Some
 returns-in_err-erase-in-Some g c =
-    let e = erase_fine c.args.layout.now c.args.address c.in-Some.offset c.in-Some.ensures (omega arith) c.if-offset-eq0.true in
     search (rules, stop)
 
 pub returns-in_ok-erase-in-Some : goal.returns-in_ok-erase-in-Some

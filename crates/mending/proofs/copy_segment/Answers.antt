@@ -1,7 +1,6 @@
-use Rattle.std.proofs.Common.{rules, ℕ, ◌+◌, ◌*◌, List, refl, subst, arith}
-use Rattle.std.proofs.lemmas.Result.{err_from_is_err_and}
+use Rattle.std.proofs.Common.{rules, ◌+◌, ◌*◌, arith}
 use Rattle.memory.specs.State.{State, at}
-use Rattle.memory.specs.Ran.{Ran, stop, more, writes}
+use Rattle.memory.specs.Ran.{stop, more}
 use Rattle.mending.proofs.Copying.{made_by, part_read}
 use Rattle.mending.proofs.copy_segment.Goals as goal
 
