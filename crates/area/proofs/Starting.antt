@@ -1,16 +1,16 @@
 -- Whether an area is startable, by what is read at its places.
 use denote.Param.Members.{Mut}
-use Rattle.std.proofs.Common.{◌≡◌, ℕ, ◌+◌, ◌-◌, ◌<◌, ◌≤◌, Bool, false, cond, not, ltb, List, [], ◌∷◌, length, get_or, fold, Some, Option, refl, sym, subst, ap, ◌∙◌, ap₂, arith}
+use Rattle.std.proofs.Common.{◌≡◌, ℕ, ◌+◌, ◌-◌, ◌<◌, ◌≤◌, Bool, false, List, [], ◌∷◌, length, get_or, fold, Some, Option, refl, sym, subst, ap, ◌∙◌, arith}
 use Rattle.std.specs.Fn.{Called}
 use Rattle.std.specs.Iterator.{FoldsItems}
-use Rattle.std.proofs.lemmas.Bool.{cond-false, le-ltb, eq-eqb, ne_eqb}
+use Rattle.std.proofs.lemmas.Bool.Decides.{nat_tests}
 use Rattle.std.proofs.lemmas.Fn.{fold_over}
 use Rattle.std.proofs.lemmas.Iterator.{YieldsList}
 use Rattle.std.proofs.lemmas.List.Sums.{fold-append}
 use Rattle.std.proofs.lemmas.List.FromFn.{length-map-range_with_len, get_or-map-range_with_len, fill_by_all}
 use Rattle.memory.specs.State.{State, at}
 use Rattle.image.specs.Sums.{word}
-use Rattle.image.specs.Startable.{entry, enters, startable}
+use Rattle.image.specs.Startable.{entry, startable}
 use Rattle.area.specs.Reads.{reads, Reads, OneArea}
 
 pub reads_length : (s : State) (place count : ℕ) → length (reads s place count) ≡ count
@@ -44,19 +44,12 @@ module _ (s : State) (place count : ℕ) (accepts : List ℕ → Bool) where
     entry_is : entry area ≡ Some (word low high)
     entry_is =
         let n : length area ≡ count = reads_length s place count in
-        cond-false (ltb (length area) 2) _ _ (le-ltb (length area) 2 (omega arith))
-        ∙ ap₂ (λ a b. Some (word a b))
-        (ap (λ k. get_or area (k - 2) 0) n ∙ reads_at s place count (count - 2) 0 (omega arith) ∙ sym is_low)
-        (ap (λ k. get_or area (k - 1) 0) n ∙ reads_at s place count (count - 1) 0 (omega arith) ∙ sym is_high)
+        let a : get_or area (count - 2) 0 ≡ low = reads_at s place count (count - 2) 0 (omega arith) ∙ sym is_low in
+        let b : get_or area (count - 1) 0 ≡ high = reads_at s place count (count - 1) 0 (omega arith) ∙ sym is_high in
+        rw n (grind (arith, nat_tests))
 
     pub erased_entry : low ≡ 0xFF → high ≡ 0xFF → false ≡ startable accepts area
-    erased_entry a b =
-        sym (
-        ap (λ e. cond (enters e) (accepts area) false) entry_is
-        ∙ ap (λ v. cond (not v) (accepts area) false) (eq-eqb (word low high) 0xFFFF (omega arith)))
+    erased_entry a b = rw entry_is (grind (arith, nat_tests))
 
     pub some_entry : (word low high ≡ 0xFFFF → ⊥) → accepts area ≡ startable accepts area
-    some_entry h =
-        sym (
-        ap (λ e. cond (enters e) (accepts area) false) entry_is
-        ∙ ap (λ v. cond (not v) (accepts area) false) (ne_eqb (word low high) 0xFFFF h))
+    some_entry h = rw entry_is (grind (arith, nat_tests))

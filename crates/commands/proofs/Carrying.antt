@@ -1,25 +1,11 @@
--- Effects carried out, by what the code tests.
-use Rattle.std.proofs.Common.{◌≡◌, ℕ, ◌+◌, ◌-◌, ◌/◌, ◌%◌, ◌<◌, ◌≤◌, ◌&&◌, eqb, ltb, leb, List, [], ◌∷◌, length, Ok, Err, sym, refl, ap, ◌∙◌, arith}
-use Rattle.std.proofs.lemmas.Bool.{cond-true, cond_both, le-leb, lt-ltb, eq-eqb, and_from, and_parts, leb-true, ltb-true, eqb-true}
+-- The effects of the commands with an address, by what the code tests.
+use Rattle.std.proofs.Common.{◌≡◌, ℕ, ◌+◌, ◌-◌, ◌/◌, ◌%◌, ◌<◌, ◌≤◌, List, [], ◌∷◌, length, arith}
+use Rattle.std.proofs.lemmas.Bool.Decides.{nat_tests}
 use Rattle.memory.specs.Change.{erase}
-use Rattle.memory.specs.Make.{Make}
-use Rattle.memory.specs.Ran.{Ran}
-use Rattle.memory.specs.declared.Fault.{Fault}
-use Rattle.memory.proofs.Effects.{ran_as}
 use Rattle.layout.specs.Areas.{address, application_place, application_size}
 use Rattle.layout.specs.declared.divided.Layout.{Layout}
-use Rattle.rule.specs.Command.{Effect, effect, erase_segment, write_block}
+use Rattle.rule.specs.Command.{effect, erase_segment, write_block}
 use Rattle.words.specs.declared.Answer.TheVariants.{Done, InvalidParams}
-use Rattle.commands.specs.Obeyed.{response, Carried}
-use Rattle.commands.specs.declared.Response.{Response}
-
--- an equal effect is carried out in the same way
-module _ {M : Type 0} {make : Make M} {e : Effect} (f : Effect) (same : f ≡ e) {m n : M} where
-  pub carried_done : {x : Response} → Ran make e.changes m n (Ok tt) → x ≡ response e → Carried make f m n (Ok x)
-  carried_done ran is = (ran_as (ap (λ v. v.changes) (sym same)) ran, is ∙ ap response (sym same))
-
-  pub carried_lost : {x : Fault} → Ran make e.changes m n (Err x) → Carried make f m n (Err x)
-  carried_lost ran = ran_as (ap (λ v. v.changes) (sym same)) ran
 
 module _ (l : Layout) (from : ℕ) where
   abbrev base : ℕ
@@ -29,34 +15,16 @@ module _ (l : Layout) (from : ℕ) where
       → erase_segment l from ≡ effect (erase (1 + offset / 512) ∷ []) Done
   erase_fine offset is a b =
       let same : from - base ≡ offset = omega arith in
-      cond-true (leb base from && (ltb (from - base) (application_size l) && eqb ((from - base) % 512) 0)) _ _
-      (and_from (leb base from) _ (le-leb base from (omega arith))
-      (and_from (ltb (from - base) (application_size l)) _ (lt-ltb (from - base) _ (omega arith))
-      (eq-eqb ((from - base) % 512) 0 (ap (λ x. x % 512) same ∙ b))))
-      ∙ ap (λ x. effect (erase (1 + x / 512) ∷ []) Done) same
+      rw same (grind (arith, nat_tests))
 
   pub erase_not : ((offset : ℕ) → from ≡ base + offset → offset < application_size l → offset % 512 ≡ 0 → ⊥)
       → erase_segment l from ≡ effect [] InvalidParams
   erase_not h =
-      let inside = ltb (from - base) (application_size l) in
-      let starts = eqb ((from - base) % 512) 0 in
-      cond_both (leb base from && (inside && starts)) _ _ (λ x. x ≡ effect [] InvalidParams)
-      (λ e.
-      let p = and_parts (leb base from) (inside && starts) e in
-      let q = and_parts inside starts p.1 in
-      let low : base ≤ from = leb-true _ _ p.0 in
-      absurd (h (from - base) (omega arith) (ltb-true _ _ q.0) (eqb-true _ _ q.1)))
-      (λ _. refl)
+      let never : base ≤ from → from - base < application_size l → (from - base) % 512 ≡ 0 → ⊥ = λ a b c. h (from - base) (omega arith) b c in
+      grind (arith, nat_tests)
 
   pub write_not : (block : List ℕ) → ((offset : ℕ) → from ≡ base + offset → 0 < length block → offset + length block ≤ application_size l → ⊥)
       → write_block l from block ≡ effect [] InvalidParams
   write_not block h =
-      let some = ltb 0 (length block) in
-      let inside = leb ((from - base) + length block) (application_size l) in
-      cond_both (leb base from && (some && inside)) _ _ (λ x. x ≡ effect [] InvalidParams)
-      (λ e.
-      let p = and_parts (leb base from) (some && inside) e in
-      let q = and_parts some inside p.1 in
-      let low : base ≤ from = leb-true _ _ p.0 in
-      absurd (h (from - base) (omega arith) (ltb-true _ _ q.0) (leb-true _ _ q.1)))
-      (λ _. refl)
+      let never : base ≤ from → 0 < length block → (from - base) + length block ≤ application_size l → ⊥ = λ a b c. h (from - base) (omega arith) b c in
+      grind (arith, nat_tests)

@@ -44,7 +44,7 @@ impl Response {
     }
 }
 
-// The command that a payload is. Bytes that it has no use for are ignored.
+// The command that a payload is. Bytes that it has no use for are ignored, so this is no From, which would keep them.
 pub fn parse(payload: &[u8]) -> Command<'_>
     ensures { (l : Areas) (can : Bool) → effect_of l can result ≡ the_effect l can payload.now }
 {
@@ -63,6 +63,8 @@ pub fn parse(payload: &[u8]) -> Command<'_>
         _ => Command::Unknown,
     }
 }
+
+// Memory and layout are passed side by side: each method of a struct of the two would have to promise as well that it still holds the same two.
 
 // How far an address lies above the first one that the host may name.
 fn offset(layout: &Layout, address: u16) -> Option<usize>

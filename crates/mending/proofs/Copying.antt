@@ -12,9 +12,9 @@ use Rattle.memory.specs.Ran.{Ran, none, stop, more, writes, Within}
 use Rattle.memory.specs.declared.Fault.{Fault}
 use Rattle.memory.proofs.Effects.{not_refused, ran_as, ran_size, ran_apart, writes_within}
 use Rattle.memory.proofs.Turns.{Leads, leads_end}
-use Rattle.layout.specs.Areas.{part, mark, size as whole_size}
+use Rattle.layout.specs.Areas.{part, size as whole_size}
 use Rattle.layout.specs.declared.divided.Layout.{Layout}
-use Rattle.rule.specs.Restart.{copy, copies, clears, mends}
+use Rattle.rule.specs.Restart.{copy, copies}
 use Rattle.rule.proofs.Areas.{part_length, part_at, part_same}
 use Rattle.mending.specs.Mended.{segment_copy}
 
@@ -109,10 +109,3 @@ module _ {M : Type 0} {make : Make M} (laws : Laws make) (l : Layout) (start : M
 
   pub copying_all : (i : ℕ) (m : M) → l.k ≤ i → Copying make l start i m → Ran make (copies l xs 0 l.k) start m (Ok tt)
   copying_all i m h c = leads_end (copies_end l xs l.k i h) c.leads
-
--- which changes a restart makes, by the mark
-pub mends_erased : (l : Layout) (xs : List ℕ) → mark xs ≡ 0xFF → mends l xs ≡ []
-mends_erased l xs e = rw e refl
-
-pub mends_approved : (l : Layout) (xs : List ℕ) → mark xs ≡ 0x5A → mends l xs ≡ copies l xs 0 l.k ++ clears l
-mends_approved l xs e = rw e refl

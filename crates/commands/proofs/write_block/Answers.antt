@@ -1,7 +1,7 @@
-use Rattle.std.proofs.Common.{sym, refl, arith}
+use Rattle.std.proofs.Common.{rules, sym, arith}
 use Rattle.std.proofs.lemmas.Bool.{eqb-true}
 use Rattle.memory.specs.Ran.{none}
-use Rattle.commands.proofs.Carrying.{carried_done, write_not}
+use Rattle.commands.proofs.Carrying.{write_not}
 use Rattle.commands.proofs.write_block.Goals as goal
 use Rattle.commands.proofs.write_block.Goals.{in_default-via-in-Some+then-not-is_empty+else-offset-block, in_default-via-in-Some+else-not-is_empty, in_default-via-in_default}
 
@@ -13,4 +13,4 @@ returns-in_default g c =
       | in_default-via-in-Some+else-not-is_empty w ↦ omega (arith, eqb-true _ _ (sym w.if-not-is_empty.ensures))
       | in_default-via-in_default w ↦ omega (arith, w.in_default.ensures)
     ]) in
-    carried_done _ e (none refl refl) c.new-in_default.ensures
+    search (rules, none)
