@@ -98,13 +98,6 @@ fn cut(bytes: &[u8; 6]) -> Cut
     }
 }
 
-// A cut for each six bytes.
-fn each_cut(heap: Global, pieces: &[[u8; 6]]) -> Result<Vec<Cut>, AllocError>
-    ensures { IfOk result (λ v. v.items ≡ map the_cut pieces.now) }
-{
-    pieces.iter().map(cut).collect(heap)
-}
-
 // So many cuts, one after another.
 fn cuts(heap: Global, count: u16, bytes: &[u8]) -> Result<Vec<Cut>, Stop>
     ensures { GivesCuts result count bytes.now }
@@ -113,7 +106,7 @@ fn cuts(heap: Global, count: u16, bytes: &[u8]) -> Result<Vec<Cut>, Stop>
     let pieces = pieces
         .get(..usize::from(count))
         .ok_or(Refusal::MalformedInput)?;
-    Ok(each_cut(heap, pieces)?)
+    Ok(pieces.iter().map(cut).collect(heap)?)
 }
 
 // Five bytes are an event, where they are well formed: a restart, or a byte that was received.

@@ -1,12 +1,15 @@
-use Rattle.std.proofs.Common.{◌≡◌, true, ◌≤◌, ◌/◌, IfSome, length, map, get_or, vec_items, vec_len, sym, refl, ap, ◌∙◌, subst, arith, rules}
+use Rattle.std.proofs.Common.{◌≡◌, true, ℕ, ◌<◌, ◌≤◌, ◌/◌, List, Option, IfSome, Bor, length, map, get_or, vec_items, vec_len, sym, ap, ◌∙◌, refl, subst, arith, rules}
 use Rattle.std.proofs.lemmas.List.{length-map}
 use Rattle.std.proofs.iter.runs.Made.{at-is}
+use Rattle.std.specs.Simd.{first_chunks}
 use Rattle.std.specs.Slice.Iter.{iter_rest}
-use Rattle.script.specs.Events.{events, unplayed}
-use Rattle.script.proofs.More.{events_of, ended, ended_whole, ended_early}
+use Rattle.script.specs.declared.Ending.TheVariants.{Whole, Malformed}
+use Rattle.script.specs.Events.{unplayed}
+use Rattle.script.proofs.More.{events_are, given, refused}
 use Rattle.script.proofs.events.Goals as goal
 use Rattle.script.proofs.events.Goals.{then-len-from, else-len-from}
 
+-- the chain is followed from its last call back to the slice
 pub returns : goal.returns
 returns c =
     let bytes = c.args.bytes.now in
@@ -17,26 +20,26 @@ returns c =
     let taken = c.take.ensures.runs came.0 came.0.seen came.1 in
     let source = taken.1.0 in
     let read = c.iter.ensures.runs source source.seen in
-    let xs = iter_rest source.from in
     let calls = called.0.items in
+    let xs = first_chunks 5 (length bytes / 5) bytes in
     let turns : vec_items c.in_ok-turns.turns ≡ map unplayed calls = search rules in
     let whole : called.0.whole ≡ true = search rules in
-    let from : xs ≡ c.as_chunks.result.0.now = ap iter_rest taken.1.1 ∙ c.iter.ensures.rest in
+    let from : iter_rest source.from ≡ xs = ap iter_rest taken.1.1 ∙ (c.iter.ensures.rest ∙ c.as_chunks.ensures.front) in
+    let pieces : length xs ≡ length bytes / 5 = sym (ap length c.as_chunks.ensures.front) ∙ c.as_chunks.ensures.front_len in
     let few : came.0.len ≤ count = omega (arith, taken.0, c.from.ensures) in
-    let inside : came.0.len ≤ length xs = omega (arith, read.0, taken.1.2.0.0) in
-    let all : events count bytes ≡ (map unplayed calls, ended count (length calls)) =
-    events_of bytes count (length bytes / 5) called.0.len came.0.len calls called.0.at came.0.at xs
-    refl (from ∙ c.as_chunks.ensures.front) (ap length from ∙ c.as_chunks.ensures.front_len) called.0.long (at-is called.0) came.2.0.0 few inside
-    (λ k. subst (λ o. IfSome o (λ x. x.now ≡ get_or xs k x.now)) (taken.1.2.0.2 k) (read.8 k))
-    (came.2.1 (λ a r g h. refl)).0
-    (came.2.0.2 whole)
-    (λ w. (w.1, λ below. sym taken.1.2.0.0 ∙ read.1 (taken.1.2.1 w.0 (omega (arith, c.from.ensures)))))
-    (λ x y h. search rules)
-    (λ x h. search rules) in
+    let inside : came.0.len ≤ length xs = omega (arith, read.0, ap length from, taken.1.2.0.0) in
+    let is : (k : ℕ) → IfSome (came.0.at k) (λ x. x.now ≡ get_or xs k x.now) =
+    λ k. subst (λ (p : Option (Bor (List ℕ)) × List (List ℕ)). IfSome p.0 (λ x. x.now ≡ get_or p.1 k x.now)) (λ i. (taken.1.2.0.2 k i, from i)) (read.8 k) in
     let made : vec_len c.in_ok-turns.turns ≡ length calls = omega (arith, c.in_ok-turns.turns.ok.0, ap length turns, length-map calls unplayed) in
-    let end : ended count (length calls) ≡ c.if-len-from.ending =
+    let end : (length calls ≡ count → c.if-len-from.ending ≡ Whole) × (length calls < count → c.if-len-from.ending ≡ Malformed) =
     elim c.if-len-from.branch [
-      | then-len-from w ↦ ended_whole count (length calls) (omega (arith, c.len.ensures, c.from-2.ensures, w.if-len-from.true)) ∙ sym w.ending-is
-      | else-len-from w ↦ ended_early count (length calls) (omega (arith, few, came.2.0.0, called.0.long, c.len.ensures, c.from-2.ensures, w.if-len-from.false)) ∙ sym w.ending-is
+      | then-len-from w ↦ (λ h. w.ending-is, λ h. absurd (omega (arith, c.len.ensures, c.from-2.ensures, w.if-len-from.true)))
+      | else-len-from w ↦ (λ h. absurd (omega (arith, c.len.ensures, c.from-2.ensures, w.if-len-from.false)), λ h. w.ending-is)
     ] in
-    all ∙ (λ i. (sym turns i, end i))
+    events_are calls count (length bytes / 5) bytes c.if-len-from.ending refl (omega (arith, came.2.0.0, called.0.long)) (omega (arith, came.2.0.0, called.0.long))
+    (λ k h. given (λ x y h. search rules) _ (came.0.at k) xs k (omega (arith, came.2.0.0, called.0.long)) (is k) (rw (at-is called.0 k) at ((came.2.1 (λ a r g h. refl)).0 k)))
+    (λ below within.
+    rw (← called.0.long) (refused (λ x h. search rules) _ xs called.0.len (omega (arith, called.0.long)) (is called.0.len) (came.2.0.2 whole)
+    (λ w. omega (arith, w.1, called.0.long, c.from.ensures, read.1 (taken.1.2.1 w.0 (omega (arith, w.1, called.0.long, c.from.ensures))), ap length from, taken.1.2.0.0))))
+    end.0 end.1
+    ∙ ap (λ ts. (ts, c.if-len-from.ending)) (sym turns)
