@@ -8,13 +8,7 @@ use std::io::{Read, Write};
 use std::process::ExitCode;
 
 fn main(rt: HostRuntime) -> ExitCode {
-    match run(&rt) {
-        Ok(()) => ExitCode::SUCCESS,
-        Err(why) => {
-            let _ = eprintln!(rt; "imagesum: {why}");
-            ExitCode::FAILURE
-        }
-    }
+    program::ended(&rt, "imagesum", run(&rt))
 }
 
 // The task that the arguments name, which is to inspect where there is none.
@@ -23,10 +17,10 @@ fn asked(rt: &HostRuntime) -> anyhow::Result<Task> {
     let Some(word) = words.next() else {
         return Ok(Task::Inspect);
     };
-    match (Task::named(word.as_str()), words.next()) {
-        (Some(task), None) => Ok(task),
-        (Some(_), Some(_)) => Err(Misuse::TooManyWords.into()),
-        (None, _) => Err(Misuse::UnknownWord.into()),
+    let task = word.as_str().parse::<Task>()?;
+    match words.next() {
+        None => Ok(task),
+        Some(_) => Err(Misuse::TooManyWords.into()),
     }
 }
 

@@ -1,11 +1,9 @@
 -- A verdict in plain words: an image is told startable exactly where it has an entry and holds what its check asks.
-use Rattle.std.proofs.Common.{◌≡◌, ℕ, ◌-◌, Bool, true, false, cond, eqb, ltb, ◌↔◌, List, length, get_or, Some, None, Ok, Err, Result, sym, refl, ◌∙◌, arith, ltb-false, le-ltb, ne_eqb, fold, ⊎_elim}
+use Rattle.std.proofs.Common.{◌≡◌, ℕ, ◌-◌, Bool, true, false, cond, eqb, ltb, ◌↔◌, List, length, get_or, Some, None, Ok, Err, Result, sym, refl, ◌∙◌, arith, ltb-false, le-ltb, ne_eqb}
 use borrow.Author.Tests.{eqb-false}
-use Rattle.image.specs.Sums.{word, number, pushed}
-use Rattle.image.proofs.Accepting.{whole}
-use Rattle.std.proofs.lemmas.Bool.{lt-ltb, cases_lt}
+use Rattle.image.specs.Sums.{word}
 use Rattle.image.specs.Startable.{enters}
-use Rattle.inspect.specs.Facts.{sums_of, reason, verdict, HasEntry}
+use Rattle.inspect.specs.Facts.{reason, verdict, HasEntry}
 use Rattle.inspect.specs.declared.Reason.{Reason}
 use Rattle.inspect.specs.declared.Reason.TheVariants as V
 
@@ -24,10 +22,10 @@ told_is false false true address e = rw (← e)
 told_is false false false address e = rw (← e)
 
 told_startable : (short erased ok : Bool) → told short erased ok ≡ Ok tt → (short ≡ false) × (erased ≡ false) × (ok ≡ true)
-told_startable true erased ok e = let z : ◌≡◌ {A = ℕ} 0 1 = cc in let none : ⊥ = omega arith in absurd none
-told_startable false true ok e = let z : ◌≡◌ {A = ℕ} 0 1 = cc in let none : ⊥ = omega arith in absurd none
+told_startable true erased ok e = absurd (cc)
+told_startable false true ok e = absurd (cc)
 told_startable false false true e = (refl, refl, refl)
-told_startable false false false e = let z : ◌≡◌ {A = ℕ} 0 1 = cc in let none : ⊥ = omega arith in absurd none
+told_startable false false false e = absurd (cc)
 
 pub verdict_means : (accepts : List ℕ → Bool) (image : List ℕ) {P : Type 0} → (accepts image ≡ true) ↔ P
     → (verdict accepts image ≡ Ok tt) ↔ (HasEntry image × P)
@@ -40,10 +38,3 @@ verdict_means accepts image means =
           ((ltb-false (length image) 2 h.0, eqb-false address 0xFFFF h.1), means.0 h.2)),
       (λ h. is ∙ rw (le-ltb (length image) 2 h.0.0, ne_eqb address 0xFFFF h.0.1, means.1 h.1)),
     )
-
--- the stored sum that comes in byte by byte is the number that its bytes are
-pub sums_are : (n : ℕ) (sum : List ℕ → ℕ) (image : List ℕ) → sums_of n (fold (pushed n) 0) sum image ≡ sums_of n number sum image
-sums_are n sum image = ⊎_elim
-    (λ short. rw (lt-ltb (length image) n short))
-    (λ long. rw (whole n image long))
-    (cases_lt (length image) n)

@@ -8,13 +8,7 @@ mod sums;
 use std::process::ExitCode;
 
 fn main(rt: HostRuntime) -> ExitCode {
-    match run(&rt) {
-        Ok(()) => ExitCode::SUCCESS,
-        Err(why) => {
-            let _ = eprintln!(rt; "vectors: {why}");
-            ExitCode::FAILURE
-        }
-    }
+    program::ended(&rt, "vectors", run(&rt))
 }
 
 fn run(rt: &HostRuntime) -> anyhow::Result<()> {

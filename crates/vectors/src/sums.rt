@@ -1,8 +1,8 @@
 // Published and independently worked out check values of the two sums.
 use anyhow::anyhow;
 use crc::{Crc8, CrcCcitt};
-use hex_digits::{HexByte, HexWord};
 use std::alloc::{AllocError, Global};
+use std::iter;
 
 // A list of bytes, by a part and how often it is repeated, and its two sums.
 #[derive(Clone, Copy)]
@@ -14,129 +14,126 @@ struct Case {
     crc8: u8,
 }
 
-fn cases() -> [Case; 15] {
-    [
-        Case {
-            name: "no bytes",
-            unit: b"",
-            times: 1,
-            ccitt: 0xFFFF,
-            crc8: 0x00,
-        },
-        Case {
-            name: "the byte 0x00",
-            unit: b"\x00",
-            times: 1,
-            ccitt: 0xE1F0,
-            crc8: 0x00,
-        },
-        Case {
-            name: "the byte 0xFF",
-            unit: b"\xFF",
-            times: 1,
-            ccitt: 0xFF00,
-            crc8: 0xF3,
-        },
-        Case {
-            name: "the letter A",
-            unit: b"A",
-            times: 1,
-            ccitt: 0xB915,
-            crc8: 0xC0,
-        },
-        Case {
-            name: "the digits 1 to 9",
-            unit: b"123456789",
-            times: 1,
-            ccitt: 0x29B1,
-            crc8: 0xF4,
-        },
-        Case {
-            name: "the command 0x15",
-            unit: b"\x15",
-            times: 1,
-            ccitt: 0xA364,
-            crc8: 0x6B,
-        },
-        Case {
-            name: "the command 0x1C",
-            unit: b"\x1C",
-            times: 1,
-            ccitt: 0x324D,
-            crc8: 0x54,
-        },
-        Case {
-            name: "the command 0x19",
-            unit: b"\x19",
-            times: 1,
-            ccitt: 0x62E8,
-            crc8: 0x4F,
-        },
-        Case {
-            name: "a pangram",
-            unit: b"The quick brown fox jumps over the lazy dog",
-            times: 1,
-            ccitt: 0x8FDD,
-            crc8: 0xC1,
-        },
-        Case {
-            name: "the letter A, 256 times",
-            unit: b"A",
-            times: 256,
-            ccitt: 0xEA0B,
-            crc8: 0x8E,
-        },
-        Case {
-            name: "an erased segment",
-            unit: b"\xFF",
-            times: 512,
-            ccitt: 0x6995,
-            crc8: 0xDE,
-        },
-        Case {
-            name: "a cleared segment",
-            unit: b"\x00",
-            times: 512,
-            ccitt: 0x1634,
-            crc8: 0x00,
-        },
-        Case {
-            name: "the digits 1 to 9, 1000 times",
-            unit: b"123456789",
-            times: 1000,
-            ccitt: 0xD57C,
-            crc8: 0xD2,
-        },
-        Case {
-            name: "an erased area of 48 segments",
-            unit: b"\xFF",
-            times: 24576,
-            ccitt: 0xFFC0,
-            crc8: 0x30,
-        },
-        Case {
-            name: "all bit patterns of a nibble, 65536 bytes",
-            unit: b"\x00\x11\x223DUfw\x88\x99\xAA\xBB\xCC\xDD\xEE\xFF",
-            times: 4096,
-            ccitt: 0xC650,
-            crc8: 0x18,
-        },
-    ]
-}
+const CASES: [Case; 15] = [
+    Case {
+        name: "no bytes",
+        unit: b"",
+        times: 1,
+        ccitt: 0xFFFF,
+        crc8: 0x00,
+    },
+    Case {
+        name: "the byte 0x00",
+        unit: b"\x00",
+        times: 1,
+        ccitt: 0xE1F0,
+        crc8: 0x00,
+    },
+    Case {
+        name: "the byte 0xFF",
+        unit: b"\xFF",
+        times: 1,
+        ccitt: 0xFF00,
+        crc8: 0xF3,
+    },
+    Case {
+        name: "the letter A",
+        unit: b"A",
+        times: 1,
+        ccitt: 0xB915,
+        crc8: 0xC0,
+    },
+    Case {
+        name: "the digits 1 to 9",
+        unit: b"123456789",
+        times: 1,
+        ccitt: 0x29B1,
+        crc8: 0xF4,
+    },
+    Case {
+        name: "the command 0x15",
+        unit: b"\x15",
+        times: 1,
+        ccitt: 0xA364,
+        crc8: 0x6B,
+    },
+    Case {
+        name: "the command 0x1C",
+        unit: b"\x1C",
+        times: 1,
+        ccitt: 0x324D,
+        crc8: 0x54,
+    },
+    Case {
+        name: "the command 0x19",
+        unit: b"\x19",
+        times: 1,
+        ccitt: 0x62E8,
+        crc8: 0x4F,
+    },
+    Case {
+        name: "a pangram",
+        unit: b"The quick brown fox jumps over the lazy dog",
+        times: 1,
+        ccitt: 0x8FDD,
+        crc8: 0xC1,
+    },
+    Case {
+        name: "the letter A, 256 times",
+        unit: b"A",
+        times: 256,
+        ccitt: 0xEA0B,
+        crc8: 0x8E,
+    },
+    Case {
+        name: "an erased segment",
+        unit: b"\xFF",
+        times: 512,
+        ccitt: 0x6995,
+        crc8: 0xDE,
+    },
+    Case {
+        name: "a cleared segment",
+        unit: b"\x00",
+        times: 512,
+        ccitt: 0x1634,
+        crc8: 0x00,
+    },
+    Case {
+        name: "the digits 1 to 9, 1000 times",
+        unit: b"123456789",
+        times: 1000,
+        ccitt: 0xD57C,
+        crc8: 0xD2,
+    },
+    Case {
+        name: "an erased area of 48 segments",
+        unit: b"\xFF",
+        times: 24576,
+        ccitt: 0xFFC0,
+        crc8: 0x30,
+    },
+    Case {
+        name: "all bit patterns of a nibble, 65536 bytes",
+        unit: b"\x00\x11\x223DUfw\x88\x99\xAA\xBB\xCC\xDD\xEE\xFF",
+        times: 4096,
+        ccitt: 0xC650,
+        crc8: 0x18,
+    },
+];
 
 fn repeated(heap: Global, case: Case) -> Result<Vec<u8>, AllocError> {
-    let mut bytes = Vec::new(heap);
-    for _ in 0..case.times {
-        bytes.extend_from_slice(case.unit)?;
-    }
-    Ok(bytes)
+    iter::repeat_n(case.unit, usize::from(case.times))
+        .flatten()
+        .copied()
+        .collect(heap)
 }
 
 // One line a case. Gives an error where one differs.
 pub fn run(rt: &HostRuntime) -> anyhow::Result<()> {
     let mut agree = 0u32;
     let mut differ = 0u32;
-    for case in cases() {
+    for case in CASES {
         let bytes = repeated(rt.alloc(), case)?;
         let ccitt = crc::sum::<CrcCcitt>(bytes.as_slice());
         let crc8 = crc::sum::<Crc8>(bytes.as_slice());
@@ -148,9 +145,7 @@ pub fn run(rt: &HostRuntime) -> anyhow::Result<()> {
             "DIFFERS"
         };
         let name = case.name;
-        let ccitt = HexWord(ccitt);
-        let crc8 = HexByte(crc8);
-        println!(rt; "{name}: CRC-CCITT 0x{ccitt}, CRC-8 0x{crc8}: {verdict}")?;
+        println!(rt; "{name}: CRC-CCITT 0x{ccitt:04X}, CRC-8 0x{crc8:02X}: {verdict}")?;
     }
     println!(rt; "{agree} agree, {differ} differ")?;
     if differ > 0 {

@@ -3,7 +3,8 @@ use Rattle.image.specs.Check.{accepted}
 use Rattle.image.specs.Sums.{ccitt_check, crc8_check, vector_check}
 use Rattle.image.proofs.Accepting.{ccitt_means, crc8_means}
 use Rattle.crc.specs.Sums.{ccitt, crc8}
-use Rattle.inspect.proofs.Plain.{verdict_means, sums_are}
+use Rattle.inspect.proofs.Plain.{verdict_means}
+use Rattle.inspect.proofs.Fields.{sums_are}
 use Rattle.inspect.proofs.inspect.Goals as goal
 
 pub returns-clause-judged : goal.returns-clause-judged

@@ -1,0 +1,21 @@
+// How each program of this repository ends.
+#![tactic(auto)]
+
+ghost use Rattle.std.specs.Prelude.{◌≡◌, cond};
+ghost use Rattle.std.specs.Result.{is_ok};
+ghost use Rattle.std.specs.Process.{exit_status};
+
+use std::process::ExitCode;
+
+// With success, or with status 1 and one line on standard error that says why.
+pub fn ended(rt: &HostRuntime, name: &str, outcome: anyhow::Result<()>) -> ExitCode
+    ensures { exit_status result ≡ cond (is_ok outcome) 0 1 }
+{
+    match outcome {
+        Ok(()) => ExitCode::SUCCESS,
+        Err(why) => {
+            let _ = eprintln!(rt; "{name}: {why}");
+            ExitCode::FAILURE
+        }
+    }
+}
