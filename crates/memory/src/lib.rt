@@ -70,6 +70,7 @@ pub trait Memory {
 pub fn write_all<M: Memory>(memory: &mut M, place: usize, bytes: &[u8]) -> Result<(), Fault>
     ensures { Wrote M.Memory.make place bytes.now memory.old memory.new result }
 {
+    // Counted from zero: a range `place..` beside the bytes would end at the largest number.
     for (i, byte) in bytes.iter().enumerate() {
         memory.write(place + i, *byte)?;
     }
@@ -80,6 +81,7 @@ pub fn write_all<M: Memory>(memory: &mut M, place: usize, bytes: &[u8]) -> Resul
 pub fn erase_all<M: Memory>(memory: &mut M, segment: usize, count: usize) -> Result<(), Fault>
     ensures { Cleared M.Memory.make segment count memory.old memory.new result }
 {
+    // Counted from zero: `segment + count` may be past the largest number.
     for i in 0..count {
         memory.erase(segment + i)?;
     }

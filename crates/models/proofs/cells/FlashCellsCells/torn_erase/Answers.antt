@@ -1,6 +1,6 @@
-use Rattle.std.proofs.Common.{◌<◌, map, length, get_or, ap, ◌∙◌, arith}
+use Rattle.std.proofs.Common.{◌<◌, length, get_or, arith}
 use lib.Bits.{bit_or}
-use Rattle.std.proofs.lemmas.List.{take_all, drop_all, append-nil, get_or_default}
+use Rattle.std.proofs.lemmas.List.{get_or_default}
 use Rattle.std.proofs.lemmas.List.Edits.{map_over_more}
 use Rattle.models.proofs.cells.FlashCellsCells.torn_erase.Goals as goal
 
