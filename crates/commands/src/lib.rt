@@ -9,12 +9,13 @@ ghost use Rattle.memory.specs.Ran.{erases};
 ghost use Rattle.rule.specs.Command.{effect, erase_segment, write_block, jump, obey as the_effect};
 ghost use Rattle.words.specs.declared.Answer.TheVariants.{Done};
 ghost use Rattle.commands.specs.Obeyed.{ready, effect_of, Carried, Obeyed};
+ghost use Rattle.words.specs.declared.Job.TheVariants.{HostCommand};
 
 use area::startable_at;
 use image::ImageCheck;
 use layout::{Layout, mark};
 use memory::{Fault, Memory, erase_all, write_all};
-use rule::refusal;
+use rule::Work;
 use words::{Answer, Job, Phase, Refusal};
 
 // What a good frame's payload asks for. A block's data are a part of the payload.
@@ -153,6 +154,18 @@ fn carry_out<M: Memory, C: ImageCheck>(
     }
 }
 
+// The host, whose changes all belong to its command.
+#[derive(Clone, Copy)]
+struct Host;
+
+impl Work for Host {
+    ghost jobs = { λ _ _. HostCommand };
+
+    fn job(&self, _place: usize) -> Job {
+        Job::HostCommand
+    }
+}
+
 // Does what a good frame's payload asks for.
 pub fn obey<M: Memory, C: ImageCheck>(
     memory: &mut M,
@@ -161,5 +174,5 @@ pub fn obey<M: Memory, C: ImageCheck>(
 ) -> Result<Response, Refusal>
     ensures { Obeyed M.Memory.make (the_effect layout.now (ready (accepted C.ImageCheck.check) layout.now (M.Memory.make.state memory.old)) payload.now) memory.old memory.new result }
 {
-    carry_out::<M, C>(memory, layout, payload).map_err(|fault| refusal(fault, |_| Job::HostCommand))
+    carry_out::<M, C>(memory, layout, payload).map_err(|fault| Host.refusal(fault))
 }

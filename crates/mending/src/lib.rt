@@ -10,7 +10,7 @@ ghost use Rattle.mending.specs.Mended.{segment_copy, Mended};
 
 use layout::{Layout, mark};
 use memory::{Fault, Memory, erase_all, write_all};
-use rule::refusal;
+use rule::Work;
 use std::array;
 use words::{Job, Refusal};
 
@@ -62,16 +62,21 @@ fn change<M: Memory>(memory: &mut M, layout: &Layout) -> Result<(), Fault>
     }
 }
 
-// The job that the change at a place belonged to.
-fn job_at(layout: &Layout, place: usize) -> Job
-    ensures { result ≡ restart_job layout.now place }
-{
-    if place == 0 {
-        Job::MarkErase
-    } else if place < layout.application_place() {
-        Job::DownloadErase
-    } else {
-        Job::Copy
+// A restart, whose changes belong to a job by their places.
+#[derive(Clone, Copy)]
+struct Restart<'l>(&'l Layout);
+
+impl Work for Restart<'_> {
+    ghost jobs = { λ restart. restart_job restart.0.now };
+
+    fn job(&self, place: usize) -> Job {
+        if place == 0 {
+            Job::MarkErase
+        } else if place < self.0.application_place() {
+            Job::DownloadErase
+        } else {
+            Job::Copy
+        }
     }
 }
 
@@ -83,5 +88,5 @@ pub fn mend<M: Memory>(memory: &mut M, layout: &Layout) -> Result<(), Refusal>
     if memory.size() != layout.size() {
         return Err(Refusal::WrongSize);
     }
-    change(memory, layout).map_err(|fault| refusal(fault, |place| job_at(layout, place)))
+    change(memory, layout).map_err(|fault| Restart(layout).refusal(fault))
 }

@@ -14,11 +14,6 @@ abbrev pub refusing : (ℕ → Job) → Fault → Refusal
 refusing job (F.SupplyLost place) = SupplyLost place (job place)
 refusing job F.PastEnd = PastEnd
 
--- the same, where the job of a place is one that `finds` relates to it
-abbrev pub Refuses : (ℕ → Job → Type 0) → Fault → Refusal → Type 0
-Refuses finds (F.SupplyLost place) r = (job : Job) × finds place job × (r ≡ SupplyLost place job)
-Refuses finds F.PastEnd r = r ≡ PastEnd
-
 -- a value where all changes finished, or the refusal
 abbrev pub ended : {X : Type 0} → (ℕ → Job) → X → End → Result X Refusal
 ended job x (Ok _) = Ok x

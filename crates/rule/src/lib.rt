@@ -1,12 +1,14 @@
 // The rule on cuts: what a controller runs after its supply has failed, whatever its memory, its image check and its bus.
 #![tactic(auto)]
 
+ghost use Rattle.std.specs.Prelude.{◌≡◌, ℕ};
 ghost use Rattle.image.specs.Check.{accepted};
 ghost use Rattle.rule.specs.Bus.{Bus, Law};
 ghost use Rattle.rule.specs.Calls.{engine};
-ghost use Rattle.rule.specs.Performed.{Refuses};
+ghost use Rattle.rule.specs.Performed.{refusing};
 ghost use Rattle.rule.specs.Rule.{Rule};
 ghost use Rattle.rule.specs.Frames.{Unfinished, ActsOnGoodFrames, JumpsTold};
+ghost use Rattle.words.specs.declared.Job.{Job};
 
 use image::ImageCheck;
 use memory::{Fault, Memory};
@@ -35,16 +37,23 @@ pub fn jumps_are_told_by_their_answer<M: Memory, C: ImageCheck>()
     ensures { JumpsTold (accepted C.ImageCheck.check) M.Memory.make }
 {}
 
-// A fault as a call tells it. The job of a lost change is found by its place.
-pub fn refusal<F: FnOnce(usize) -> Job>(fault: Fault, job: F) -> Refusal
-    requires { F.IsAlwaysCallable job }
-    ensures { Refuses (F.post job) fault result }
-{
-    match fault {
-        Fault::SupplyLost(place) => Refusal::SupplyLost {
-            place,
-            job: job(place),
-        },
-        Fault::PastEnd => Refusal::PastEnd,
+// What is at work on a memory. A change that loses its supply is told with the job that its place belongs to.
+pub trait Work {
+    ghost jobs: { Self → ℕ → Job };
+
+    fn job(&self, place: usize) -> Job
+        ensures { result ≡ jobs self.now place };
+
+    // A fault as a call tells it.
+    final fn refusal(&self, fault: Fault) -> Refusal
+        ensures { result ≡ refusing (jobs self.now) fault }
+    {
+        match fault {
+            Fault::SupplyLost(place) => Refusal::SupplyLost {
+                place,
+                job: self.job(place),
+            },
+            Fault::PastEnd => Refusal::PastEnd,
+        }
     }
 }
