@@ -46,8 +46,7 @@ impl<'b, 'c, C> Simulated<'b, 'c, C> {
         512 * (self.bytes.len() / 512).min(105)
     }
 
-    // Begins a change of so many places from one up: the pattern that tears it, if one does. The counters and the supply go on
-    // accordingly.
+    // Begins a change of so many places from one up, as the counters and the supply have it. `Some` is the pattern that tears it.
     fn begin(&mut self, place: usize, span: usize) -> Result<Option<u16>, Fault>
         ensures fate { result ≡ fate place span self.old }
         ensures counted { self.new ≡ the_counted result self.old }
