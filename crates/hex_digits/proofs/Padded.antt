@@ -32,27 +32,41 @@ four_digits n large small =
     begin n ∙ next 63 n [] (omega arith) ∙ next 62 (n / 16) _ (omega arith) ∙ next 61 (n / 16 / 16) _ (omega arith) ∙ last 60 (n / 16 / 16 / 16) _ (omega arith)
     ∙ rw (a, b, c, d)
 
+abbrev padded : ℕ → List ℕ
+padded n = padded_integral (format_spec 32 0 4 4 (2 ^ 64 - 1)) false [] (digits 16 true n)
+
+module _ (n : ℕ) where
+  one_padded : n < 16 → padded n ≡ word_digits n
+  unfolding padded_integral char_count
+  one_padded one =
+      let a : n / 256 / 16 ≡ 0 = omega arith in
+      let b : n / 256 % 16 ≡ 0 = omega arith in
+      let c : n % 256 / 16 ≡ 0 = omega arith in
+      let d : n % 256 % 16 ≡ n = omega arith in
+      rw (hex_one_digit true n one, a, b, c, d)
+
+  two_padded : 16 ≤ n → n < 256 → padded n ≡ word_digits n
+  unfolding padded_integral char_count
+  two_padded more two =
+      let a : n / 256 / 16 ≡ 0 = omega arith in
+      let b : n / 256 % 16 ≡ 0 = omega arith in
+      let c : n % 256 ≡ n = omega arith in
+      rw (hex_two_digits true n more two, a, b, c)
+
+  three_padded : 256 ≤ n → n < 4096 → padded n ≡ word_digits n
+  unfolding padded_integral char_count
+  three_padded more three =
+      let a : n / 256 / 16 ≡ 0 = omega arith in
+      let b : n / 256 % 16 ≡ n / 256 = omega arith in
+      rw (three_digits n more three, a, b)
+
+  four_padded : 4096 ≤ n → n < 65536 → padded n ≡ word_digits n
+  unfolding padded_integral char_count
+  four_padded more four = rw (four_digits n more four)
+
 pub word_padded : (n : ℕ) → n < 65536 → padded_integral (format_spec 32 0 4 4 (2 ^ 64 - 1)) false [] (digits 16 true n) ≡ word_digits n
-unfolding padded_integral char_count
-word_padded n small = ⊎_elim
-    (λ one.
-    let a : n / 256 / 16 ≡ 0 = omega arith in
-    let b : n / 256 % 16 ≡ 0 = omega arith in
-    let c : n % 256 / 16 ≡ 0 = omega arith in
-    let d : n % 256 % 16 ≡ n = omega arith in
-    rw (hex_one_digit true n one, a, b, c, d))
-    (λ from_two. ⊎_elim
-    (λ two.
-    let a : n / 256 / 16 ≡ 0 = omega arith in
-    let b : n / 256 % 16 ≡ 0 = omega arith in
-    let c : n % 256 ≡ n = omega arith in
-    rw (hex_two_digits true n from_two two, a, b, c))
-    (λ from_three. ⊎_elim
-    (λ three.
-    let a : n / 256 / 16 ≡ 0 = omega arith in
-    let b : n / 256 % 16 ≡ n / 256 = omega arith in
-    rw (three_digits n from_three three, a, b))
-    (λ from_four. rw (four_digits n from_four small))
-    (cases_lt n 4096))
-    (cases_lt n 256))
+word_padded n small =
+    ⊎_elim (one_padded n)
+    (λ more. ⊎_elim (two_padded n more)
+    (λ more. ⊎_elim (three_padded n more) (λ more. four_padded n more small) (cases_lt n 4096)) (cases_lt n 256))
     (cases_lt n 16)

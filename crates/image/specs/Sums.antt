@@ -66,6 +66,7 @@ NeedsItsSum check n = (image : List ℕ) → accepted check image ≡ true → n
 
 -- what each check accepts, told with no state
 pub record Meanings : Type 0 where
+  -- by a stored sum of any length, start and step; CRC-CCITT and CRC-8 are two such
   pub sum_means : (n starts : ℕ) (steps : ℕ → ℕ → ℕ) → 0 < n → (image : List ℕ)
       → (accepted (number_check n starts steps) image ≡ true) ↔ HoldsSum n (fold steps starts) image
   pub sum_needs : (n starts : ℕ) (steps : ℕ → ℕ → ℕ) → 0 < n → NeedsItsSum (number_check n starts steps) n

@@ -1,5 +1,5 @@
 -- The numbers that are told of an image: what the stored sum is, and in which digits they are written.
-use Rattle.std.proofs.Common.{◌≡◌, ℕ, List, fold, Some, None, Option, MatchOption, ap, ⊎_elim}
+use Rattle.std.proofs.Common.{◌≡◌, ℕ, List, length, fold, Some, None, Option, MatchOption, ap, ⊎_elim}
 use Rattle.std.specs.Option.{IsSomeAnd}
 use Rattle.std.proofs.lemmas.Bool.{lt-ltb, cases_lt}
 use Rattle.image.specs.Sums.{number, pushed}

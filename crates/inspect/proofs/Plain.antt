@@ -1,5 +1,5 @@
 -- A verdict in plain words: an image is told startable exactly where it has an entry and holds what its check asks.
-use Rattle.std.proofs.Common.{◌≡◌, ℕ, ◌-◌, Bool, true, false, cond, eqb, ltb, ◌↔◌, List, length, get_or, Some, None, Ok, Err, Result, sym, refl, ◌∙◌, arith, ltb-false, le-ltb, ne_eqb}
+use Rattle.std.proofs.Common.{◌≡◌, ℕ, ◌-◌, Bool, true, false, cond, eqb, ltb, ◌↔◌, List, length, get_or, Some, None, Ok, Err, Result, sym, refl, ◌∙◌, ltb-false, le-ltb, ne_eqb}
 use borrow.Author.Tests.{eqb-false}
 use Rattle.image.specs.Sums.{word}
 use Rattle.image.specs.Startable.{enters}

@@ -129,7 +129,7 @@ fn repeated(heap: Global, case: Case) -> Result<Vec<u8>, AllocError> {
         .collect(heap)
 }
 
-// One line a case. Gives an error where one differs.
+// One line a case. Gives an error where one differs. The two counts stay with the printing: a filter and a count would be a second pass.
 pub fn run(rt: &HostRuntime) -> anyhow::Result<()> {
     let mut agree = 0u32;
     let mut differ = 0u32;
