@@ -1,13 +1,13 @@
 -- Calls made one after the other.
-use Rattle.std.proofs.Common.{◌≡◌, ℕ, ◌+◌, ◌<◌, ◌≤◌, Bool, List, [], ◌∷◌, ◌++◌, map, length, get_or, take, set, Some, sym, refl, ap, ◌∙◌}
-use Rattle.std.proofs.lemmas.List.{map_push, map-set, get_or-map, set-get_or, take_more_set, take_all}
+use Rattle.std.proofs.Common.{◌≡◌, ℕ, ◌+◌, ◌<◌, Bool, List, [], ◌∷◌, ◌++◌, map, length, get_or, take, set, Some, sym, refl, ap, ◌∙◌}
+use Rattle.std.proofs.lemmas.List.{map_push, map-set, get_or-map, set-get_or, take_more_set}
 use Rattle.memory.specs.Make.{Make}
 use Rattle.rule.specs.Calls.{Engine, Machine, Called}
 use Rattle.rule.specs.Frames.{framed}
 use Rattle.rule.specs.Rule.{Step, History}
 use Rattle.words.specs.Outcomes.{Outcome, Reply}
 use Rattle.words.specs.declared.Turn.{Turn}
-use Rattle.controller.specs.Playing.{calls, turn, Played}
+use Rattle.controller.specs.Playing.{calls, turn}
 
 history_more : {M : Type 0} {E : Engine M} (m n : Machine E) (es : List (Step E)) (e : Step E) → History m es n → e.before ≡ n → History m (es ++ e ∷ []) e.after
 history_more m n [] e h is = (is ∙ h, refl)
@@ -21,9 +21,6 @@ pub record SoFar {M : Type 0} (accepts : List ℕ → Bool) (make : Make M) (bef
   pub same : calls now ≡ calls before
 
 module _ {M : Type 0} (accepts : List ℕ → Bool) (make : Make M) (before : List (Turn ℕ Reply)) (m : Machine (framed accepts make)) where
-  pub none_yet : SoFar accepts make before before 0 m m
-  none_yet = record { steps = []; history = refl; front = refl; same = refl }
-
   pub one_more : (now : List (Turn ℕ Reply)) (i : ℕ) (n o : Machine (framed accepts make)) (d : Turn ℕ Reply) (r : Outcome Reply)
       → i < length now → SoFar accepts make before now i m n → Called (get_or now i d).call n o r
       → SoFar accepts make before (set now i (record { call = (get_or now i d).call; outcome = Some r })) (i + 1) m o
@@ -39,6 +36,3 @@ module _ {M : Type 0} (accepts : List ℕ → Bool) (make : Make M) (before : Li
             ∙ set-get_or (calls now) i d.call
             ∙ s.same;
       }
-
-  pub all_played : (now : List (Turn ℕ Reply)) (i : ℕ) (n : Machine (framed accepts make)) → length now ≤ i → SoFar accepts make before now i m n → Played accepts make before now m n
-  all_played now i n h s = record { steps = s.steps; history = s.history; turns = sym (take_all i now h) ∙ s.front; same = s.same }

@@ -16,7 +16,7 @@ enum Receiving {
     SumHigh { need: u8, low: u8 },
 }
 
-// A receive state, and the payload so far in the first bytes of the buffer.
+// A receive state, and the payload so far in the first bytes of the buffer. There is no heap here, and the state says how many they are.
 #[derive(Drop)]
 pub struct Receiver {
     state: Receiving,
