@@ -23,6 +23,7 @@ pub fn play<C: Cells>(layout: Layout, cuts: &[Cut], turns: &mut [Turn<u8, Reply>
 {
     let mut bytes = [0xFF; LARGEST];
     let mut memory: Simulated<C> = Simulated::new(&mut bytes[..layout.size()], cuts);
+    // A blank memory of the layout's size is never refused.
     let _ = run::<Simulated<C>, CcittCheck>(&mut memory, layout, turns);
 }
 

@@ -136,7 +136,7 @@ fn events(
     let turns: Vec<Turn<u8, Reply>> = pieces
         .iter()
         .take(usize::from(count))
-        .map_while(|piece| event(piece))
+        .map_while(event)
         .map(|call| Turn {
             call,
             outcome: None,
