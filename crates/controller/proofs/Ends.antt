@@ -23,7 +23,7 @@ reads_part s place count h =
 
 -- a refusal for its place is no loss of supply
 past_not_lost : {A : Type 0} {r : End} {place : ℕ} → r ≡ Err F.PastEnd → r ≡ Err (F.SupplyLost place) → A
-past_not_lost e g = let z : ◌≡◌ {A = ℕ} 0 1 = cc in let never : ⊥ = omega arith in absurd never
+past_not_lost e g = absurd cc
 
 module _ {M : Type 0} {make : Make M} (laws : Laws make) where
   -- changes within the memory are not refused for their places
@@ -71,7 +71,7 @@ pub ok_same : {X : Type 0} {x y : X} → ◌≡◌ {A = Result X Refusal} (Ok x)
 ok_same {X} {x} h = ap (λ (r : Result X Refusal). elim r [ Ok v ↦ v | Err _ ↦ x ]) h
 
 pub ok_not_err : {A X : Type 0} {x : X} {e : Refusal} → ◌≡◌ {A = Result X Refusal} (Ok x) (Err e) → A
-ok_not_err h = let z : ◌≡◌ {A = ℕ} 0 1 = cc in let never : ⊥ = omega arith in absurd never
+ok_not_err h = absurd cc
 
 -- changes within the memory, told as a call tells them: all have finished, or the supply was lost
 pub data ToldEnd {M X : Type 0} (make : Make M) (cs : List Change) (job : ℕ → Job) (x : X) (m n : M) (r : Result X Refusal) : Type 0 where

@@ -16,7 +16,7 @@ use Rattle.words.specs.declared.Phase.TheVariants.{Waiting, Listening, Running}
 use Rattle.words.specs.Outcomes.{Reply}
 
 waiting_not : Waiting ≡ Listening → ⊥
-waiting_not e = let z : ◌≡◌ {A = ℕ} 0 1 = cc in omega arith
+waiting_not e = absurd cc
 
 listening : (p : Phase) → is_listening p ≡ true → p ≡ Listening
 listening Waiting e = absurd (false≢true e)

@@ -11,7 +11,7 @@ use Rattle.words.specs.declared.Answer.TheVariants.{HeaderError}
 
 -- verdicts are told apart
 not_good : {A : Type 0} {v : Verdict} {payload : List ℕ} → v ≡ more → v ≡ good payload → A
-not_good e g = let z : ◌≡◌ {A = ℕ} 0 1 = cc in let never : ⊥ = omega arith in absurd never
+not_good e g = absurd cc
 
 -- the tests that a payload and its sum have passed
 record Sized (n : ℕ) (rest payload : List ℕ) : Type 0 where
@@ -38,7 +38,7 @@ sized_good n rest payload =
     (λ _ e. bad e))))
   where
     bad : {A : Type 0} {a : _} → wrong a ≡ good payload → A
-    bad e = let z : ◌≡◌ {A = ℕ} 0 1 = cc in let never : ⊥ = omega arith in absurd never
+    bad e = absurd cc
 
     same : {xs : List ℕ} → good xs ≡ good payload → xs ≡ payload
     same e = cc
@@ -66,7 +66,7 @@ sized_more n rest =
     cond_both (eqb (ccitt (take n rest)) (word (get_or rest n 0) (get_or rest (n + 1) 0))) _ _ P (λ _ e. not_good e refl) (λ _ e. bad e))))
   where
     bad : {A : Type 0} {a : _} → wrong a ≡ more → A
-    bad e = let z : ◌≡◌ {A = ℕ} 0 1 = cc in let never : ⊥ = omega arith in absurd never
+    bad e = absurd cc
 
 -- a list of n + 2 elements is its first n and the last two
 ends : (n : ℕ) (xs : List ℕ) → length xs ≡ n + 2 → xs ≡ take n xs ++ (get_or xs n 0 ∷ get_or xs (n + 1) 0 ∷ [])
@@ -136,10 +136,10 @@ headed_is h v w other =
     cond_both (eqb h 0x80) v (wrong HeaderError) P (λ is e. (eqb-true h 0x80 is, e)) (λ _ e. absurd (other e))
 
 error_not_good : (payload : List ℕ) → wrong HeaderError ≡ good payload → ⊥
-error_not_good payload e = let z : ◌≡◌ {A = ℕ} 0 1 = cc in omega arith
+error_not_good payload e = absurd cc
 
 error_not_more : wrong HeaderError ≡ more → ⊥
-error_not_more e = let z : ◌≡◌ {A = ℕ} 0 1 = cc in omega arith
+error_not_more e = absurd cc
 
 -- a good frame has five bytes at least
 frame_length : (bytes payload : List ℕ) → GoodFrame bytes payload → 5 ≤ length bytes

@@ -38,7 +38,7 @@ chosen_startable accepts i xs =
     (λ _. cond_both (startable accepts xs) _ _ P (λ can e. can) (λ _ e. absurd (apart e)))
   where
     apart : Listening ≡ Running → ⊥
-    apart e = let z : ◌≡◌ {A = ℕ} 0 1 = cc in omega arith
+    apart e = absurd cc
 
 none_false : {X : Type 0} (xs : List X) → None (λ _. ⊥) xs
 none_false [] = tt

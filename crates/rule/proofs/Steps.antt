@@ -24,7 +24,7 @@ use Rattle.rule.proofs.Areas.{ran_part}
 use Rattle.rule.proofs.Mend.{mended_boot}
 
 pub waiting_not : Waiting ≡ Listening → ⊥
-waiting_not e = let z : ◌≡◌ {A = ℕ} 0 1 = cc in omega arith
+waiting_not e = absurd cc
 
 -- a call answers in one way
 pub lost_not_said : {R : Type 0} (o : Outcome R) → Lost o → Said o → ⊥
