@@ -175,7 +175,8 @@ pub fn play<M: Memory, C: ImageCheck>(
     }
 }
 
-// Commissions a new controller and plays the turns on it.
+// Commissions a new controller and plays the turns on it. Memory, layout and turns come side by side, as memory does in each method: what
+// becomes of each is then said of its own name.
 pub fn run<M: Memory, C: ImageCheck>(
     memory: &mut M,
     layout: Layout,

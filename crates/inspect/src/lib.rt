@@ -84,7 +84,7 @@ impl FromStr for Task {
 
 // The sums of an image by a checksum; None where it is shorter than its stored sum.
 pub fn sums_of<S: Checksum<Register: Stored>>(image: &[u8]) -> Option<Sums<S::Register>>
-    ensures { result ≡ sums_of S.Register.LENGTH (fold S.Register.push S.Register.ZERO) (fold S.steps S.starts) image.now }
+    ensures { result ≡ sums_of S.Register.LENGTH S.Register.of (fold S.steps S.starts) image.now }
 {
     let (stored, covered) = image::split_sum::<SumCheck<S>>(image)?;
     Some(Sums {

@@ -1,7 +1,7 @@
 // The input of a bench: the layout and the kind of a memory, the cuts of its supply, and the calls to make.
 #![tactic(auto)]
 
-ghost use Rattle.std.specs.Prelude.{◌≡◌, map, IfOk, ok_or};
+ghost use Rattle.std.specs.Prelude.{◌≡◌, map, IfOk, ok_or, alloc_error};
 ghost use Rattle.script.specs.declared.Stop.TheVariants.{Refused as Declined, OutOfMemory};
 ghost use Rattle.script.specs.Cuts.{cut as the_cut};
 ghost use Rattle.script.specs.Events.{event as the_event, events as the_events};
@@ -11,7 +11,7 @@ ghost use Rattle.words.specs.declared.Refusal.TheVariants.{MalformedInput};
 
 use layout::Layout;
 use models::Cut;
-use std::alloc::{AllocError, Global};
+use std::alloc::{AllocError, AllocFailed, Global};
 use words::{Call, Inputs, Refusal, Reply, Turn};
 
 // A script has so many cuts at most.
@@ -74,6 +74,14 @@ impl From<AllocError> for Stop {
 
     fn from(full: AllocError) -> Stop {
         Stop::OutOfMemory(full)
+    }
+}
+
+impl<T: Drop> From<AllocFailed<T>> for Stop {
+    ghost from_gives = { λ _ r. r ≡ OutOfMemory alloc_error };
+
+    fn from(full: AllocFailed<T>) -> Stop {
+        Stop::OutOfMemory(full.into())
     }
 }
 
