@@ -1,9 +1,8 @@
 -- What each check accepts, told with no state: after the stored sum, the state is that sum beside the register.
-use Rattle.std.proofs.Common.{◌≡◌, ℕ, zero, suc, ◌+◌, ◌-◌, ◌*◌, ◌/◌, ◌^◌, ◌<◌, ◌≤◌, Bool, true, eqb, ◌↔◌, List, [], ◌∷◌, length, take, drop, fold, sym, refl, ap, ◌∙◌, mul_assoc, arith}
-use native.Mathlib.Nat.{pow-suc, pow-succ', mul-add, zero-div, one-le-pow, add-mul-div_left, div-div-eq-div-mul}
+use Rattle.std.proofs.Common.{◌≡◌, ℕ, zero, suc, ◌-◌, ◌<◌, ◌≤◌, Bool, true, eqb, ◌↔◌, List, [], ◌∷◌, length, take, drop, fold, sym, refl, ap, ◌∙◌, arith}
 use Rattle.std.proofs.lemmas.Bool.{eqb-true, eq-eqb, lt-ltb, false≢true}
 use Rattle.std.proofs.lemmas.List.{length-take-le}
-use Rattle.std.proofs.lemmas.Nat.{pow-add}
+use Rattle.image.specs.Reading.{reads}
 use Rattle.crc.specs.Register.{fed}
 use Rattle.image.specs.Check.{accepted}
 use Rattle.image.specs.Sums.{word, number, pushed, sum_step, sum_accepts, number_check, ccitt_check, crc8_check, HoldsSum, HoldsCcitt, HoldsCrc8}
@@ -35,29 +34,9 @@ module _ {R : Type 0} (push : R → ℕ → R) (same : R → R → Bool) (starts
       let w = said missing (push stored byte) bytes in
       (λ t. let h = w.0 (sym e ∙ t) in (omega (arith, h.0), h.1), λ h. e ∙ w.1 (omega (arith, h.0), h.1))
 
--- the bytes of a register come in one after the other
-pushed_all : (n k : ℕ) (bytes : List ℕ) (r : ℕ) → n ≡ length bytes + k
-    → fold (pushed n) r bytes ≡ r / 256 ^ length bytes + 256 ^ k * number bytes
-pushed_all n k [] r e = omega arith
-pushed_all n k (byte ∷ bytes) r e =
-    let l = length bytes in
-    let before : n - 1 ≡ l + k = omega arith in
-    let e' : n ≡ l + suc k = omega arith in
-    let above : pushed n r byte ≡ r / 256 + 256 ^ l * (256 ^ k * byte) =
-    ap (λ x. r / 256 + x * byte) (ap (λ i. 256 ^ i) before ∙ pow-add 256 l k) ∙ ap (λ x. r / 256 + x) (mul_assoc (256 ^ l) (256 ^ k) byte) in
-    let down : pushed n r byte / 256 ^ l ≡ r / 256 ^ suc l + 256 ^ k * byte =
-    ap (λ x. x / 256 ^ l) above
-    ∙ add-mul-div_left (r / 256) (256 ^ k * byte) (one-le-pow l 256 (omega arith))
-    ∙ ap (λ x. x + 256 ^ k * byte) (div-div-eq-div-mul r 256 (256 ^ l) ∙ ap (λ x. r / x) (sym (pow-succ' 256 l))) in
-    let more : 256 ^ suc k * number bytes ≡ 256 ^ k * (256 * number bytes) =
-    ap (λ x. x * number bytes) (pow-suc 256 k) ∙ mul_assoc (256 ^ k) 256 (number bytes) in
-    pushed_all n (suc k) bytes (pushed n r byte) e' ∙ omega (arith, down, more, mul-add (256 ^ k) byte (256 * number bytes))
-
--- a register of n bytes that took in n of them is the number that they are
-pub whole : (n : ℕ) (bytes : List ℕ) → n ≤ length bytes → fold (pushed n) 0 (take n bytes) ≡ number (take n bytes)
-whole n bytes h =
-    let e : n ≡ length (take n bytes) + 0 = omega (arith, length-take-le n bytes h) in
-    pushed_all n 0 (take n bytes) 0 e ∙ omega (arith, zero-div (256 ^ length (take n bytes)))
+-- the first n bytes of a list are taken in as the number that they are
+whole : (n : ℕ) (bytes : List ℕ) → n ≤ length bytes → fold (pushed n) 0 (take n bytes) ≡ number (take n bytes)
+whole n bytes h = reads n (take n bytes) (length-take-le n bytes h)
 
 pub sum_means : (n starts : ℕ) (steps : ℕ → ℕ → ℕ) → 0 < n → (image : List ℕ)
     → (accepted (number_check n starts steps) image ≡ true) ↔ HoldsSum n (fold steps starts) image

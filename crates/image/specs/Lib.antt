@@ -1,3 +1,4 @@
 pub mod Check
 pub mod Sums
+pub mod Reading
 pub mod Startable

@@ -1,6 +1,7 @@
 // How an image stores a sum: in as many bytes as the sum's register has, the low one first.
-ghost use Rattle.std.specs.Prelude.{◌≡◌, ℕ};
-ghost use Rattle.image.specs.Sums.{pushed};
+ghost use Rattle.std.specs.Prelude.{◌≡◌, ℕ, List, length, fold};
+ghost use Rattle.image.specs.Sums.{pushed, number as the_number};
+ghost use Rattle.image.specs.Reading.{reads as bytes_are_read};
 
 // A register that can be read from its stored bytes, one at a time.
 pub trait Stored: Copy + PartialEq {
@@ -16,9 +17,14 @@ pub trait Stored: Copy + PartialEq {
 
     ghost push: { Self → ℕ → Self };
 
+    ghost number: { List ℕ → Self };
+
     // The next stored byte comes in at the top, and those before it move down.
     fn push(self, byte: u8) -> Self
         ensures { result ≡ push self byte };
+
+    // All stored bytes make the number that they are.
+    ghost reads: { (bytes : List ℕ) → length bytes ≡ LENGTH → fold push ZERO bytes ≡ number bytes };
 }
 
 impl Stored for u8 {
@@ -31,6 +37,10 @@ impl Stored for u8 {
     ghost ZERO = { 0 };
 
     ghost push = { pushed 1 };
+
+    ghost number = { the_number };
+
+    ghost reads = { bytes_are_read 1 };
 
     fn push(self, byte: u8) -> u8 {
         byte
@@ -47,6 +57,10 @@ impl Stored for u16 {
     ghost ZERO = { 0 };
 
     ghost push = { pushed 2 };
+
+    ghost number = { the_number };
+
+    ghost reads = { bytes_are_read 2 };
 
     fn push(self, byte: u8) -> u16 {
         (self >> 8) | (u16::from(byte) << 8)

@@ -1,23 +1,11 @@
--- The numbers that are told of an image: what the stored sum is, and in which digits they are written.
-use Rattle.std.proofs.Common.{◌≡◌, ℕ, List, length, fold, Some, None, Option, MatchOption, ap, ⊎_elim}
+-- A number that was mapped to its display is told as the number's digits.
+use Rattle.std.proofs.Common.{◌≡◌, ℕ, List, Some, None, Option, MatchOption, ap}
 use Rattle.std.specs.Option.{IsSomeAnd}
-use Rattle.std.proofs.lemmas.Bool.{lt-ltb, cases_lt}
-use Rattle.image.specs.Sums.{number, pushed}
-use Rattle.image.proofs.Accepting.{whole}
-use Rattle.inspect.specs.Facts.{sums_of}
 use Rattle.inspect.specs.Text.{field_text, field_output}
 
--- a number that was mapped to its display is told as the number's digits
 pub field_is : {A D : Type 0} {P : A → D → Type 0} (o : Option A) (r : Option D) → MatchOption o (r ≡ None) (λ x. IsSomeAnd r (P x))
     → (output : D → Option (List ℕ)) (digits : A → List ℕ) → ((x : A) (d : D) → P x d → output d ≡ Some (digits x))
     → field_output output r ≡ Some (field_text digits o)
 field_is None r h output digits same = ap (field_output output) h
 field_is (Some x) (Some d) h output digits same = rw (same x d h)
 field_is (Some x) None h output digits same = absurd h
-
--- the stored sum that comes in byte by byte is the number that its bytes are
-pub sums_are : (n : ℕ) (sum : List ℕ → ℕ) (image : List ℕ) → sums_of n (fold (pushed n) 0) sum image ≡ sums_of n number sum image
-sums_are n sum image = ⊎_elim
-    (λ short. rw (lt-ltb (length image) n short))
-    (λ long. rw (whole n image long))
-    (cases_lt (length image) n)

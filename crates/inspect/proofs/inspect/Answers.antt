@@ -2,9 +2,7 @@ use Rattle.std.proofs.Common.{refl}
 use Rattle.image.specs.Check.{accepted}
 use Rattle.image.specs.Sums.{ccitt_check, crc8_check, vector_check}
 use Rattle.image.proofs.Accepting.{ccitt_means, crc8_means}
-use Rattle.crc.specs.Sums.{ccitt, crc8}
 use Rattle.inspect.proofs.Plain.{verdict_means}
-use Rattle.inspect.proofs.Fields.{sums_are}
 use Rattle.inspect.proofs.inspect.Goals as goal
 
 pub returns-clause-judged : goal.returns-clause-judged
@@ -17,7 +15,3 @@ returns-clause-judged c =
           let w = verdict_means (accepted vector_check) image {P = Unit {0}} (λ _. tt, λ _. refl) in
           rw c.judge-3.ensures (λ e. (w.0 e).0, λ h. w.1 (h, tt));
     }
-
-pub returns-clause-told : goal.returns-clause-told
-returns-clause-told c =
-    rw (c.sums_of.ensures, c.sums_of-2.ensures, sums_are 2 ccitt, sums_are 1 crc8, c.entry.ensures, c.judge.ensures, c.judge-2.ensures, c.judge-3.ensures)
