@@ -2,10 +2,10 @@
 use Rattle.std.proofs.Common.{◌≡◌, ℕ, zero, suc, ◌-◌, ◌<◌, ◌≤◌, Bool, true, eqb, ◌↔◌, List, [], ◌∷◌, length, take, drop, fold, sym, refl, ap, ◌∙◌, arith}
 use Rattle.std.proofs.lemmas.Bool.{eqb-true, eq-eqb, lt-ltb, false≢true}
 use Rattle.std.proofs.lemmas.List.{length-take-le}
+use Rattle.image.specs.Reading.{reads}
 use Rattle.crc.specs.Register.{fed}
 use Rattle.image.specs.Check.{accepted}
 use Rattle.image.specs.Sums.{word, number, pushed, sum_step, sum_accepts, number_check, ccitt_check, crc8_check, HoldsSum, HoldsCcitt, HoldsCrc8}
-use Rattle.image.specs.Pushed.{all_in}
 use Rattle.image.specs.declared.sum.SumState.TheVariants as S
 
 module _ {R : Type 0} (push : R → ℕ → R) (same : R → R → Bool) (starts : R) (steps : R → ℕ → R) where
@@ -34,9 +34,9 @@ module _ {R : Type 0} (push : R → ℕ → R) (same : R → R → Bool) (starts
       let w = said missing (push stored byte) bytes in
       (λ t. let h = w.0 (sym e ∙ t) in (omega (arith, h.0), h.1), λ h. e ∙ w.1 (omega (arith, h.0), h.1))
 
--- a register of n bytes that took in n of them is the number that they are
-pub whole : (n : ℕ) (bytes : List ℕ) → n ≤ length bytes → fold (pushed n) 0 (take n bytes) ≡ number (take n bytes)
-whole n bytes h = all_in n (take n bytes) (length-take-le n bytes h)
+-- the first n bytes of a list are taken in as the number that they are
+whole : (n : ℕ) (bytes : List ℕ) → n ≤ length bytes → fold (pushed n) 0 (take n bytes) ≡ number (take n bytes)
+whole n bytes h = reads n (take n bytes) (length-take-le n bytes h)
 
 pub sum_means : (n starts : ℕ) (steps : ℕ → ℕ → ℕ) → 0 < n → (image : List ℕ)
     → (accepted (number_check n starts steps) image ≡ true) ↔ HoldsSum n (fold steps starts) image

@@ -1,4 +1,4 @@
 pub mod Check
 pub mod Sums
+pub mod Reading
 pub mod Startable
-pub mod Pushed

@@ -1,7 +1,7 @@
 // How an image stores a sum: in as many bytes as the sum's register has, the low one first.
-ghost use Rattle.std.specs.Prelude.{◌≡◌, ℕ, List, fold, length};
-ghost use Rattle.image.specs.Sums.{number, pushed};
-ghost use Rattle.image.specs.Pushed.{all_in};
+ghost use Rattle.std.specs.Prelude.{◌≡◌, ℕ, List, length, fold};
+ghost use Rattle.image.specs.Sums.{pushed, number as the_number};
+ghost use Rattle.image.specs.Reading.{reads as bytes_are_read};
 
 // A register that can be read from its stored bytes, one at a time.
 pub trait Stored: Copy + PartialEq {
@@ -17,15 +17,14 @@ pub trait Stored: Copy + PartialEq {
 
     ghost push: { Self → ℕ → Self };
 
-    // What the register is by its stored bytes.
-    ghost of: { List ℕ → Self };
+    ghost number: { List ℕ → Self };
 
     // The next stored byte comes in at the top, and those before it move down.
     fn push(self, byte: u8) -> Self
         ensures { result ≡ push self byte };
 
-    // All of them, taken in one after the other, are the register.
-    ghost all_in: { (bytes : List ℕ) → length bytes ≡ LENGTH → fold push ZERO bytes ≡ of bytes };
+    // All stored bytes make the number that they are.
+    ghost reads: { (bytes : List ℕ) → length bytes ≡ LENGTH → fold push ZERO bytes ≡ number bytes };
 }
 
 impl Stored for u8 {
@@ -39,9 +38,9 @@ impl Stored for u8 {
 
     ghost push = { pushed 1 };
 
-    ghost of = { number };
+    ghost number = { the_number };
 
-    ghost all_in = { all_in 1 };
+    ghost reads = { bytes_are_read 1 };
 
     fn push(self, byte: u8) -> u8 {
         byte
@@ -59,9 +58,9 @@ impl Stored for u16 {
 
     ghost push = { pushed 2 };
 
-    ghost of = { number };
+    ghost number = { the_number };
 
-    ghost all_in = { all_in 2 };
+    ghost reads = { bytes_are_read 2 };
 
     fn push(self, byte: u8) -> u16 {
         (self >> 8) | (u16::from(byte) << 8)

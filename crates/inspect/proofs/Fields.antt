@@ -1,9 +1,8 @@
--- The numbers that are told of an image: what the stored sum is, and in which digits they are written.
+-- A number that was mapped to its display is told as the number's digits.
 use Rattle.std.proofs.Common.{◌≡◌, ℕ, List, Some, None, Option, MatchOption, ap}
 use Rattle.std.specs.Option.{IsSomeAnd}
 use Rattle.inspect.specs.Text.{field_text, field_output}
 
--- a number that was mapped to its display is told as the number's digits
 pub field_is : {A D : Type 0} {P : A → D → Type 0} (o : Option A) (r : Option D) → MatchOption o (r ≡ None) (λ x. IsSomeAnd r (P x))
     → (output : D → Option (List ℕ)) (digits : A → List ℕ) → ((x : A) (d : D) → P x d → output d ≡ Some (digits x))
     → field_output output r ≡ Some (field_text digits o)

@@ -13,6 +13,8 @@ use std::str::FromStr;
 
 mod text;
 
+pub use text::{Field, Verdict};
+
 // A sum as worked out over the bytes that it covers, and as the image stores it.
 #[derive(Clone, Copy, Debug, PartialEq, Eq)]
 pub struct Sums<R> {
@@ -84,7 +86,7 @@ impl FromStr for Task {
 
 // The sums of an image by a checksum; None where it is shorter than its stored sum.
 pub fn sums_of<S: Checksum<Register: Stored>>(image: &[u8]) -> Option<Sums<S::Register>>
-    ensures { result ≡ sums_of S.Register.LENGTH S.Register.of (fold S.steps S.starts) image.now }
+    ensures { result ≡ sums_of S.Register.LENGTH S.Register.number (fold S.steps S.starts) image.now }
 {
     let (stored, covered) = image::split_sum::<SumCheck<S>>(image)?;
     Some(Sums {

@@ -9,8 +9,8 @@ use std::error::Error;
 use std::fmt;
 
 // A number in digits, or why there is none.
-#[derive(Clone, Copy)]
-struct Field<D>(Option<D>);
+#[derive(Clone, Copy, Debug, PartialEq, Eq)]
+pub struct Field<D>(pub Option<D>);
 
 impl<D: fmt::Display> fmt::Display for Field<D> {
     ghost output = { λ x. field_output D.output x.0 };
@@ -38,8 +38,8 @@ impl fmt::Display for Reason {
 impl Error for Reason {}
 
 // Whether an image may be started, in words.
-#[derive(Clone, Copy)]
-struct Verdict(Result<(), Reason>);
+#[derive(Clone, Copy, Debug, PartialEq, Eq)]
+pub struct Verdict(pub Result<(), Reason>);
 
 impl fmt::Display for Verdict {
     ghost output = { λ x. Some (verdict_text x.0) };

@@ -15,7 +15,3 @@ returns-clause-judged c =
           let w = verdict_means (accepted vector_check) image {P = Unit {0}} (λ _. tt, λ _. refl) in
           rw c.judge-3.ensures (λ e. (w.0 e).0, λ h. w.1 (h, tt));
     }
-
-pub returns-clause-told : goal.returns-clause-told
-returns-clause-told c =
-    rw (c.sums_of.ensures, c.sums_of-2.ensures, c.entry.ensures, c.judge.ensures, c.judge-2.ensures, c.judge-3.ensures)

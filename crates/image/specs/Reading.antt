@@ -1,4 +1,4 @@
--- Proof: the stored bytes of a register, taken in one after the other, are its number.
+-- Proof: a register that takes in its stored bytes, one after the other, holds the number that they are.
 use Rattle.std.proofs.Common.{◌≡◌, ℕ, suc, ◌+◌, ◌-◌, ◌*◌, ◌/◌, ◌^◌, List, [], ◌∷◌, length, fold, sym, ap, ◌∙◌, mul_assoc, arith}
 use native.Mathlib.Nat.{pow-suc, pow-succ', mul-add, zero-div, one-le-pow, add-mul-div_left, div-div-eq-div-mul}
 use Rattle.std.proofs.lemmas.Nat.{pow-add}
@@ -22,6 +22,7 @@ pushed_all n k (byte ∷ bytes) r e =
     ap (λ x. x * number bytes) (pow-suc 256 k) ∙ mul_assoc (256 ^ k) 256 (number bytes) in
     pushed_all n (suc k) bytes (pushed n r byte) e' ∙ omega (arith, down, more, mul-add (256 ^ k) byte (256 * number bytes))
 
-pub all_in : (n : ℕ) (bytes : List ℕ) → length bytes ≡ n → fold (pushed n) 0 bytes ≡ number bytes
-all_in n bytes e =
-    pushed_all n 0 bytes 0 (omega (arith, e)) ∙ omega (arith, zero-div (256 ^ length bytes))
+pub reads : (n : ℕ) (bytes : List ℕ) → length bytes ≡ n → fold (pushed n) 0 bytes ≡ number bytes
+reads n bytes h =
+    let e : n ≡ length bytes + 0 = omega arith in
+    pushed_all n 0 bytes 0 e ∙ omega (arith, zero-div (256 ^ length bytes))
