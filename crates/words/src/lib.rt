@@ -15,52 +15,38 @@ pub enum Phase {
 // The single byte that answers a host.
 #[derive(Clone, Copy, Debug, PartialEq, Eq)]
 pub enum Answer {
-    Done,
-    HeaderError,
-    ChecksumError,
-    PacketZeroError,
-    PacketSizeError,
-    InvalidParams,
-    IncorrectCommand,
-    Version,
+    Done = 0x00,
+    HeaderError = 0x51,
+    ChecksumError = 0x52,
+    PacketZeroError = 0x53,
+    PacketSizeError = 0x54,
+    InvalidParams = 0xC5,
+    IncorrectCommand = 0xC6,
+    Version = 0xA0,
 }
 
 impl From<Answer> for u8 {
     ghost from_gives = { λ a n. n ≡ answer_byte a };
 
     fn from(answer: Answer) -> u8 {
-        match answer {
-            Answer::Done => 0x00,
-            Answer::HeaderError => 0x51,
-            Answer::ChecksumError => 0x52,
-            Answer::PacketZeroError => 0x53,
-            Answer::PacketSizeError => 0x54,
-            Answer::InvalidParams => 0xC5,
-            Answer::IncorrectCommand => 0xC6,
-            Answer::Version => 0xA0,
-        }
+        answer as u8
     }
 }
 
 // What was at work when the supply went.
 #[derive(Clone, Copy, Debug, PartialEq, Eq)]
 pub enum Job {
-    Copy,
-    MarkErase,
-    DownloadErase,
-    HostCommand,
+    Copy = 1,
+    MarkErase = 2,
+    DownloadErase = 3,
+    HostCommand = 4,
 }
 
 impl From<Job> for u8 {
     ghost from_gives = { λ j n. n ≡ job_number j };
 
     fn from(job: Job) -> u8 {
-        match job {
-            Job::Copy => 1,
-            Job::MarkErase => 2,
-            Job::DownloadErase => 3,
-            Job::HostCommand => 4,
-        }
+        job as u8
     }
 }
 
