@@ -36,7 +36,7 @@ fn torn_write_in<C: Cells>() -> Left
     Left { bytes, end }
 }
 
-// The same in both.
+// The torn write in both technologies.
 pub fn torn_write() -> Both
     ensures flash_bytes { result.flash.bytes ≡ slice_set (replicate 600 0xFF) 3 0x17 }
     ensures flash_end { result.flash.end ≡ Err (SupplyLost 3) }
@@ -64,7 +64,7 @@ fn torn_erase_in<C: Cells>() -> Left
     Left { bytes, end }
 }
 
-// The same in both.
+// The torn erase in both technologies.
 pub fn torn_erase() -> Both
     ensures flash_bytes { result.flash.bytes ≡ replicate 512 0x17 ++ replicate 88 0x05 }
     ensures flash_end { result.flash.end ≡ Err (SupplyLost 0) }
@@ -82,16 +82,17 @@ fn whole_run_in<C: Cells>(written: [u8; 3]) -> Left
     ensures bytes { result.bytes ≡ replicate 3 0xFF ++ written ++ replicate 506 0xFF ++ replicate 88 0x05 }
     ensures end { result.end ≡ Ok tt }
 {
-    // An array of its own: past a `&[]` in the call, a proof does not know what the bytes are left as.
+    // A local array: of a memory over a `&[]` written in the call a proof does not learn what it leaves.
     let cuts: [Cut; 0] = [];
     let mut bytes = [0x05; 600];
     let mut memory: Simulated<C> = Simulated::new(&mut bytes, &cuts);
+    // Told by what the write then leaves.
     let _ = erase_all(&mut memory, 0, 1);
     let end = write_all(&mut memory, 3, &written);
     Left { bytes, end }
 }
 
-// The same in both, with other bytes in each.
+// The whole run in both technologies, with other bytes in each.
 pub fn whole_run() -> Both
     ensures flash_bytes { result.flash.bytes ≡ slice_set (slice_set (slice_set (replicate 512 0xFF) 3 1) 4 2) 5 3 ++ replicate 88 0x05 }
     ensures flash_end { result.flash.end ≡ Ok tt }

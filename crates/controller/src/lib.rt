@@ -44,14 +44,13 @@ fn is_forced(inputs: Inputs) -> bool
 fn choose<M: Memory, C: ImageCheck>(memory: &M, layout: &Layout, inputs: Inputs) -> Phase
     ensures { result ≡ choice (accepted C.ImageCheck.check) inputs (reads (M.Memory.make.state memory.now) (application_place layout.now) (application_size layout.now)) }
 {
-    if is_forced(inputs) {
-        return Phase::Listening;
-    }
-    if startable_at::<M, C>(
-        memory,
-        layout.application_place(),
-        layout.application_size(),
-    ) {
+    if !is_forced(inputs)
+        && startable_at::<M, C>(
+            memory,
+            layout.application_place(),
+            layout.application_size(),
+        )
+    {
         Phase::Running
     } else {
         Phase::Listening
@@ -131,20 +130,16 @@ impl Controller {
         if self.phase != Phase::Listening {
             return Err(Refusal::NotListening);
         }
-        match self.receiver.byte(byte) {
-            Ok(None) => Ok(None),
-            Ok(Some(n)) => match obey::<M, C>(memory, &self.layout, self.receiver.payload(n)) {
-                Ok(response) => {
-                    self.phase = response.phase;
-                    Ok(Some(response.answer))
-                }
-                Err(refusal) => {
-                    self.phase = Phase::Waiting;
-                    Err(refusal)
-                }
-            },
-            Err(answer) => Ok(Some(answer)),
-        }
+        // While a frame goes on nothing is said, and an error is answered. A good frame's command is obeyed.
+        let n = match self.receiver.byte(byte) {
+            Ok(None) => return Ok(None),
+            Ok(Some(n)) => n,
+            Err(answer) => return Ok(Some(answer)),
+        };
+        self.phase = Phase::Waiting;
+        let response = obey::<M, C>(memory, &self.layout, self.receiver.payload(n))?;
+        self.phase = response.phase;
+        Ok(Some(response.answer))
     }
 
     // Either of the two calls.
@@ -175,8 +170,8 @@ pub fn play<M: Memory, C: ImageCheck>(
     }
 }
 
-// Commissions a new controller and plays the turns on it. Memory, layout and turns come side by side, as memory does in each method: what
-// becomes of each is then said of its own name.
+// Commissions a new controller and plays the turns on it. Memory, layout and turns come side by side, here and in `rehearse`: memory is
+// passed beside the controller's record.
 pub fn run<M: Memory, C: ImageCheck>(
     memory: &mut M,
     layout: Layout,

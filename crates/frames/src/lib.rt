@@ -7,7 +7,7 @@ ghost use Rattle.rule.proofs.FramesLaw.{frames_law};
 use rule::HostBus;
 
 // MSPBoot's frames, a byte at a time.
-#[derive(Drop)]
+#[derive(Clone, Copy, Debug)]
 pub struct Frames;
 
 impl HostBus for Frames {

@@ -70,7 +70,7 @@ pub trait Memory {
 pub fn write_all<M: Memory>(memory: &mut M, place: usize, bytes: &[u8]) -> Result<(), Fault>
     ensures { Wrote M.Memory.make place bytes.now memory.old memory.new result }
 {
-    // Counted from zero: a range `place..` beside the bytes would end at the largest number.
+    // Counted from zero: `(place..).zip(bytes)` would leave out a byte at the largest number.
     for (i, byte) in bytes.iter().enumerate() {
         memory.write(place + i, *byte)?;
     }

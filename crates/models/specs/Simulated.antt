@@ -28,12 +28,13 @@ Fate = Result (Option ℕ) Fault
 abbrev pub view : List ℕ → List ℕ
 view bytes = map (λ byte. byte % 256) (take (room bytes) bytes)
 
--- the pattern that tears the next change: the first of the cuts that are left is due once as many changes have finished as it counts
+-- the pattern that tears the next change: the first of the cuts that are left is due once as many changes have finished, since the
+-- making or the last cut, as it counts
 abbrev pub due : List Cut → (finished : ℕ) → Option ℕ
 due [] finished = None
 due (cut ∷ cuts) finished = cond (nat_le cut.count finished) (Some cut.pattern) None
 
--- the cuts after the first: the slice of them begins a cut of 8 bytes further up
+-- the cuts after the first. Since whole memories are compared, it is said where their slice begins, too: a cut of 8 bytes further up
 abbrev pub later : Bor (List Cut) → Bor (List Cut)
 later cuts = record { ref_ptr = (cuts.ref_ptr.0, 8 + cuts.ref_ptr.1); now = drop 1 cuts.now }
 

@@ -20,7 +20,7 @@ pub trait Cells {
     ghost sound: { Sound rules };
 }
 
-#[derive(Clone, Copy)]
+#[derive(Clone, Copy, Debug)]
 pub struct FlashCells;
 
 impl Cells for FlashCells {
@@ -45,7 +45,7 @@ impl Cells for FlashCells {
     }
 }
 
-#[derive(Clone, Copy)]
+#[derive(Clone, Copy, Debug)]
 pub struct FramCells;
 
 impl Cells for FramCells {

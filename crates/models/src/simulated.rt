@@ -46,7 +46,7 @@ impl<'b, 'c, C> Simulated<'b, 'c, C> {
         512 * (self.bytes.len() / 512).min(105)
     }
 
-    // Begins a change of so many places from one up, as the counters and the supply have it. `Some` is the pattern that tears it.
+    // Begins a change of so many places from one up: refuses it, or counts it and gives the pattern that tears it, if one does.
     fn begin(&mut self, place: usize, span: usize) -> Result<Option<u16>, Fault>
         ensures fate { result ≡ fate place span self.old }
         ensures counted { self.new ≡ the_counted result self.old }

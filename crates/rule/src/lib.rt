@@ -1,4 +1,5 @@
-// The rule on cuts: what a controller runs after its supply has failed, whatever its memory, its image check and its bus.
+// The rule on cuts: what a controller runs after its supply has failed, whatever its memory, its image check and its bus; and how a lost
+// change is told.
 #![tactic(auto)]
 
 ghost use Rattle.std.specs.Prelude.{◌≡◌, ℕ};
@@ -37,14 +38,15 @@ pub fn jumps_are_told_by_their_answer<M: Memory, C: ImageCheck>()
     ensures { JumpsTold (accepted C.ImageCheck.check) M.Memory.make }
 {}
 
-// What is at work on a memory. A change that loses its supply is told with the job that its place belongs to.
+// What is at work on a memory. A change that loses its supply is told with the job that its place belongs to. No closure finds the
+// job: a public function that calls one has to ask, by a `requires`, that it may.
 pub trait Work {
     ghost jobs: { Self → ℕ → Job };
 
     fn job(&self, place: usize) -> Job
         ensures { result ≡ jobs self.now place };
 
-    // A fault as a call tells it.
+    // The refusal by which a call tells a fault of its memory.
     final fn refusal(&self, fault: Fault) -> Refusal
         ensures { result ≡ refusing (jobs self.now) fault }
     {
