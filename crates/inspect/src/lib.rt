@@ -89,6 +89,7 @@ pub fn sums_of<S: Checksum<Register: Stored>>(image: &[u8]) -> Option<Sums<S::Re
     ensures { result ≡ sums_of S.Register.LENGTH S.Register.number (fold S.steps S.START) image.now }
 {
     let (stored, covered) = image::split_sum::<SumCheck<S>>(image)?;
+    // As in `image::accepts`, a closure stands where the prover does not take a bound's method by its name.
     Some(Sums {
         computed: crc::sum::<S>(covered),
         stored: stored
