@@ -8,7 +8,7 @@ ghost use Rattle.inspect.specs.Seal.{Seals};
 ghost use Rattle.inspect.specs.Task.{NamesATask};
 
 use crc::{Checksum, Crc8, CrcCcitt};
-use image::{CcittCheck, Crc8Check, ImageCheck, Stored, SumCheck, VectorOnly, ERASED};
+use image::{CcittCheck, Crc8Check, ERASED, ImageCheck, Stored, SumCheck, VectorOnly};
 use std::str::FromStr;
 
 mod text;
