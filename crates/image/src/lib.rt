@@ -80,7 +80,7 @@ pub fn startable<C: ImageCheck>(area: &[u8]) -> bool
     }
 }
 
-// What the check by any checksum accepts.
+// The check by any checksum accepts just the images whose stored sum is the sum of all later bytes.
 pub fn check_accepts_its_sum<S: Checksum<Register: Stored>>()
     ensures { AcceptsItsSum S.Register.LENGTH S.Register.number S.Register.eq (fold S.steps S.START) ⟦<SumCheck<S> as ImageCheck>⟧.check }
 {}

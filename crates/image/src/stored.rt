@@ -25,7 +25,7 @@ pub trait Stored: Copy + PartialEq {
     fn push(self, byte: u8) -> Self
         ensures { result ≡ push self byte };
 
-    // No sum is stored in no bytes.
+    // A stored sum has one byte at least.
     ghost not_empty: { 0 < LENGTH };
 
     // All stored bytes, taken in from the low one up, make the number that they are.

@@ -7,7 +7,7 @@ ghost use Rattle.std.specs.Process.{exit_status};
 
 use std::process::ExitCode;
 
-// With success, or with status 1 and one line on standard error that says why.
+// Success, or status 1 after one line on standard error that says why.
 pub fn exit_code(rt: &HostRuntime, name: &str, outcome: anyhow::Result<()>) -> ExitCode
     ensures { exit_status result ≡ cond (is_ok outcome) 0 1 }
 {
