@@ -29,21 +29,17 @@ const TABLE: [u16; 256] = [
     0x2E93, 0x3EB2, 0x0ED1, 0x1EF0,
 ];
 
-const START: u16 = 0xFFFF;
-
 #[derive(Clone, Copy, Debug)]
 pub struct CrcCcitt;
 
 impl Checksum for CrcCcitt {
     type Register = u16;
 
-    ghost starts = { 0xFFFF };
+    const START: u16 = 0xFFFF;
+
+    ghost START = { 0xFFFF };
 
     ghost steps = { fed 16 0x1021 };
-
-    fn start() -> u16 {
-        START
-    }
 
     fn step(register: u16, byte: u8) -> u16 {
         (register << 8) ^ TABLE[((register >> 8) ^ u16::from(byte)) as usize]

@@ -23,23 +23,19 @@ const TABLE: [u8; 256] = [
     0xDE, 0xD9, 0xD0, 0xD7, 0xC2, 0xC5, 0xCC, 0xCB, 0xE6, 0xE1, 0xE8, 0xEF, 0xFA, 0xFD, 0xF4, 0xF3,
 ];
 
-const START: u8 = 0;
-
 #[derive(Clone, Copy, Debug)]
 pub struct Crc8;
 
 impl Checksum for Crc8 {
     type Register = u8;
 
-    ghost starts = { 0 };
+    const START: u8 = 0;
+
+    ghost START = { 0 };
 
     ghost steps = { fed 8 0x07 };
 
-    fn start() -> u8 {
-        START
-    }
-
-    // Not one function with CRC-CCITT's: a shift by eight, which that one needs beside its table, is none of a byte's.
+    // Not one function with CRC-CCITT's, which shifts its register by eight bits as well: a register of eight bits can't be shifted so far.
     fn step(register: u8, byte: u8) -> u8 {
         TABLE[(register ^ byte) as usize]
     }

@@ -14,12 +14,12 @@ pub use crc8::Crc8;
 pub trait Checksum {
     type Register;
 
-    ghost starts: { Self.Register };
+    // What stands in the register before the first byte.
+    const START: Self::Register;
+
+    ghost START: { Self.Register };
 
     ghost steps: { Self.Register → ℕ → Self.Register };
-
-    fn start() -> Self::Register
-        ensures { result ≡ starts };
 
     fn step(register: Self::Register, byte: u8) -> Self::Register
         ensures { result ≡ steps register byte };
@@ -27,12 +27,13 @@ pub trait Checksum {
 
 // The sum of all bytes, in their order.
 pub fn sum<S: Checksum>(bytes: &[u8]) -> S::Register
-    ensures { result ≡ fold S.Checksum.steps S.Checksum.starts bytes.now }
+    ensures { result ≡ fold S.Checksum.steps S.Checksum.START bytes.now }
 {
+    // The step stands in a closure: the prover does not take a bound's method by its name.
     bytes
         .iter()
         .copied()
-        .fold(S::start(), |register, byte| S::step(register, byte))
+        .fold(S::START, |register, byte| S::step(register, byte))
 }
 
 // The register's laws, at every width: linear over XOR, and what becomes of its low part.

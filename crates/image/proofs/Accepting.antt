@@ -5,7 +5,7 @@ use Rattle.std.proofs.lemmas.List.{length-take-le}
 use Rattle.image.specs.Reading.{reads}
 use Rattle.crc.specs.Register.{fed}
 use Rattle.image.specs.Check.{accepted}
-use Rattle.image.specs.Sums.{word, number, pushed, sum_step, sum_accepts, number_check, ccitt_check, crc8_check, HoldsSum, HoldsCcitt, HoldsCrc8}
+use Rattle.image.specs.Sums.{word, number, pushed, sum_step, sum_accepts, sum_check, number_check, AcceptsItsSum, ccitt_check, crc8_check, HoldsSum, HoldsCcitt, HoldsCrc8}
 use Rattle.image.specs.declared.sum.SumState.TheVariants as S
 
 module _ {R : Type 0} (push : R → ℕ → R) (same : R → R → Bool) (starts : R) (steps : R → ℕ → R) where
@@ -34,18 +34,20 @@ module _ {R : Type 0} (push : R → ℕ → R) (same : R → R → Bool) (starts
       let w = said missing (push stored byte) bytes in
       (λ t. let h = w.0 (sym e ∙ t) in (omega (arith, h.0), h.1), λ h. e ∙ w.1 (omega (arith, h.0), h.1))
 
--- the first n bytes of a list are taken in as the number that they are
-whole : (n : ℕ) (bytes : List ℕ) → n ≤ length bytes → fold (pushed n) 0 (take n bytes) ≡ number (take n bytes)
-whole n bytes h = reads n (take n bytes) (length-take-le n bytes h)
+  -- where the bytes of the stored sum, taken in one after the other, are the register that `of` makes of them
+  pub accepts_its_sum : (n : ℕ) (blank : R) (of : List ℕ → R) → 0 < n → ((bytes : List ℕ) → length bytes ≡ n → fold push blank bytes ≡ of bytes)
+      → AcceptsItsSum n of same (fold steps starts) (sum_check n blank push same starts steps)
+  accepts_its_sum zero blank of pos read image = let none : ⊥ = omega arith in absurd none
+  accepts_its_sum (suc n) blank of pos read image =
+      let w = said n blank image in
+      let whole = λ (h : suc n ≤ length image). ap (λ r. same r (fold steps starts (drop (suc n) image))) (read (take (suc n) image) (length-take-le (suc n) image h)) in
+      (λ t. let h = w.0 t in (h.0, sym (whole h.0) ∙ h.1), λ h. w.1 (h.0, whole h.0 ∙ h.1))
 
 pub sum_means : (n starts : ℕ) (steps : ℕ → ℕ → ℕ) → 0 < n → (image : List ℕ)
     → (accepted (number_check n starts steps) image ≡ true) ↔ HoldsSum n (fold steps starts) image
-sum_means zero starts steps pos image = let none : ⊥ = omega arith in absurd none
-sum_means (suc n) starts steps pos image =
-    let w = said (pushed (suc n)) eqb starts steps n 0 image in (
-      λ t. let h = w.0 t in (h.0, sym (whole (suc n) image h.0) ∙ eqb-true _ _ h.1),
-      λ h. w.1 (h.0, eq-eqb _ _ (whole (suc n) image h.0 ∙ h.1)),
-    )
+sum_means n starts steps pos image =
+    let w = accepts_its_sum (pushed n) eqb starts steps n 0 number pos (reads n) image in
+    (λ t. let h = w.0 t in (h.0, eqb-true _ _ h.1), λ h. w.1 (h.0, eq-eqb _ _ h.1))
 
 pub ccitt_means : (image : List ℕ) → (accepted ccitt_check image ≡ true) ↔ HoldsCcitt image
 ccitt_means [] = sum_means 2 0xFFFF (fed 16 0x1021) (omega arith) []

@@ -19,6 +19,11 @@ number (byte ∷ bytes) = byte + 256 * number bytes
 abbrev pub HoldsSum : (n : ℕ) → (List ℕ → ℕ) → List ℕ → Type 0
 HoldsSum n sum image = (n ≤ length image) × (number (take n image) ≡ sum (drop n image))
 
+-- a check that accepts just those images whose first n bytes, as the number that they are, equal the sum of all later bytes
+abbrev pub AcceptsItsSum : {R : Type 0} → (n : ℕ) (number : List ℕ → R) (same : R → R → Bool) (sum : List ℕ → R) → Check (SumState R) → Type 0
+AcceptsItsSum n number same sum check =
+    (image : List ℕ) → (accepted check image ≡ true) ↔ ((n ≤ length image) × (same (number (take n image)) (sum (drop n image)) ≡ true))
+
 -- the first two bytes, low byte first, are the CRC-CCITT sum of all later bytes
 abbrev pub HoldsCcitt : List ℕ → Type 0
 HoldsCcitt image = (2 ≤ length image) × (word (slice_index image 0) (slice_index image 1) ≡ ccitt (drop 2 image))

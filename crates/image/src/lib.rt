@@ -1,21 +1,22 @@
 // Image checks, and whether an area may be started.
 #![tactic(auto)]
 
-ghost use Rattle.std.specs.Prelude.{◌≡◌, ℕ, ◌<◌, ◌≤◌, length, take, drop, MatchOption};
+ghost use Rattle.std.specs.Prelude.{◌≡◌, ℕ, ◌<◌, ◌≤◌, length, take, drop, fold, MatchOption};
 ghost use Rattle.image.specs.Check.{Check, accepted};
-ghost use Rattle.image.specs.Sums.{Meanings};
+ghost use Rattle.image.specs.Sums.{Meanings, AcceptsItsSum, ccitt_check, crc8_check, vector_check};
 ghost use Rattle.image.specs.Startable.{entry as the_entry, startable as can_start};
 
 mod stored;
 mod sum;
 mod vector;
 
+use crc::Checksum;
 pub use stored::Stored;
 pub use sum::{CcittCheck, Crc8Check, SumCheck, SumState};
 pub use vector::VectorOnly;
 
-// An erased entry.
-const ERASED: u16 = 0xFFFF;
+// The entry of an area whose last two bytes are erased.
+pub const ERASED: u16 = 0xFFFF;
 
 // An image check: a starting state, a step for each byte, and a yes or no of a state. It has its own kind of state and its own
 // length of stored sum, and shows that its calls are the three functions of `check`; nothing else is asked of it.
@@ -25,6 +26,7 @@ pub trait ImageCheck {
     // How many bytes the stored sum has, at the start of the image.
     const SUM_LENGTH: usize;
 
+    // The same, as a number that a contract can name.
     ghost SUM_LENGTH: { ℕ };
 
     ghost check: { Check Self.State };
@@ -43,6 +45,7 @@ pub trait ImageCheck {
 pub fn accepts<C: ImageCheck>(image: &[u8]) -> bool
     ensures { result ≡ accepted C.ImageCheck.check image.now }
 {
+    // The step stands in a closure: the prover does not take a bound's method by its name.
     let state = image
         .iter()
         .copied()
@@ -77,7 +80,15 @@ pub fn startable<C: ImageCheck>(area: &[u8]) -> bool
     }
 }
 
-// What each of the three checks accepts, and that none accepts an image that is shorter than its stored sum.
+// The check by any checksum accepts just the images whose stored sum is the sum of all later bytes.
+pub fn check_accepts_its_sum<S: Checksum<Register: Stored>>()
+    ensures { AcceptsItsSum S.Register.LENGTH S.Register.number S.Register.eq (fold S.steps S.START) ⟦<SumCheck<S> as ImageCheck>⟧.check }
+{}
+
+// What a check by a stored sum accepts where the register is a number, and each of the three; none accepts an image that is shorter than its stored sum.
 pub fn checks_accept_by_their_sums()
-    ensures { Meanings }
+    ensures meanings { Meanings }
+    ensures ccitt { (⟦<CcittCheck as ImageCheck>⟧.check ≡ ccitt_check) × (⟦<CcittCheck as ImageCheck>⟧.SUM_LENGTH ≡ 2) }
+    ensures crc8 { (⟦<Crc8Check as ImageCheck>⟧.check ≡ crc8_check) × (⟦<Crc8Check as ImageCheck>⟧.SUM_LENGTH ≡ 1) }
+    ensures vector { (⟦<VectorOnly as ImageCheck>⟧.check ≡ vector_check) × (⟦<VectorOnly as ImageCheck>⟧.SUM_LENGTH ≡ 0) }
 {}

@@ -6,6 +6,7 @@ use crc::{Checksum, Crc8, CrcCcitt};
 use std::marker::PhantomData;
 
 // What has been seen: a part of the stored sum, or the whole of it with the register over the later bytes.
+// `missing` is counted down by hand: each byte comes in a call of its own, so that there is nothing to go over.
 #[derive(Clone, Copy, Debug, PartialEq, Eq)]
 pub enum SumState<R> {
     Storing { missing: usize, stored: R },
@@ -27,7 +28,7 @@ impl<S: Checksum<Register: Stored>> ImageCheck for SumCheck<S> {
 
     ghost SUM_LENGTH = { S.Register.LENGTH };
 
-    ghost check = { sum_check S.Register.LENGTH S.Register.ZERO S.Register.push S.Register.eq S.starts S.steps };
+    ghost check = { sum_check S.Register.LENGTH S.Register.ZERO S.Register.push S.Register.eq S.START S.steps };
 
     fn start() -> SumState<S::Register> {
         SumState::Storing {
@@ -44,7 +45,7 @@ impl<S: Checksum<Register: Stored>> ImageCheck for SumCheck<S> {
             },
             SumState::Storing { stored, .. } => SumState::Summing {
                 stored: stored.push(byte),
-                register: S::start(),
+                register: S::START,
             },
             SumState::Summing { stored, register } => SumState::Summing {
                 stored,

@@ -15,11 +15,9 @@ impl ImageCheck for VectorOnly {
 
     ghost check = { vector_check };
 
-    fn start() -> () {}
+    fn start() {}
 
-    fn step(state: (), _byte: u8) -> () {
-        state
-    }
+    fn step(_state: (), _byte: u8) {}
 
     fn accepts(_state: ()) -> bool {
         true

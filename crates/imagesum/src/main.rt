@@ -8,11 +8,11 @@ use std::io::{Read, Write};
 use std::process::ExitCode;
 
 fn main(rt: HostRuntime) -> ExitCode {
-    program::ended(&rt, "imagesum", run(&rt))
+    program::exit_code(&rt, "imagesum", run(&rt))
 }
 
 // The task that the arguments name, which is to inspect where there is none.
-fn asked(rt: &HostRuntime) -> anyhow::Result<Task> {
+fn task(rt: &HostRuntime) -> anyhow::Result<Task> {
     let mut words = env::args(rt)?.skip(1);
     let Some(word) = words.next() else {
         return Ok(Task::Inspect);
@@ -25,7 +25,7 @@ fn asked(rt: &HostRuntime) -> anyhow::Result<Task> {
 }
 
 fn run(rt: &HostRuntime) -> anyhow::Result<()> {
-    let task = asked(rt)?;
+    let task = task(rt)?;
     let mut image = Vec::new(rt.alloc());
     rt.stdin().read_to_end(&mut image)?;
     match task {

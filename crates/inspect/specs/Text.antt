@@ -8,15 +8,22 @@ use Rattle.inspect.specs.declared.Misuse.{Misuse}
 use Rattle.inspect.specs.declared.Misuse.TheVariants as M
 use Rattle.inspect.specs.declared.Report.{Report}
 
+-- what stands where there is no number, and what before the digits of one
+abbrev pub no_number : List ℕ
+no_number = codes "none, the image is too short"
+
+abbrev pub in_hex : List ℕ → List ℕ
+in_hex digits = codes "0x" ++ digits
+
 -- a number in digits, or why there is none
 abbrev pub field_text : {N : Type 0} → (N → List ℕ) → Option N → List ℕ
-field_text digits None = codes "none, the image is too short"
-field_text digits (Some n) = codes "0x" ++ digits n
+field_text digits None = no_number
+field_text digits (Some n) = in_hex (digits n)
 
 -- the same where a display writes the digits
 abbrev pub field_output : {D : Type 0} → (D → Option (List ℕ)) → Option D → Option (List ℕ)
-field_output output None = Some (codes "none, the image is too short")
-field_output output (Some d) = option_map (λ digits. codes "0x" ++ digits) (output d)
+field_output output None = Some no_number
+field_output output (Some d) = option_map in_hex (output d)
 
 abbrev pub reason_text : Reason → List ℕ
 reason_text V.NoEntry = codes "the image is too short for an entry"

@@ -8,7 +8,7 @@ ghost use Rattle.inspect.specs.Seal.{Seals};
 ghost use Rattle.inspect.specs.Task.{NamesATask};
 
 use crc::{Checksum, Crc8, CrcCcitt};
-use image::{CcittCheck, Crc8Check, ImageCheck, Stored, SumCheck, VectorOnly};
+use image::{CcittCheck, Crc8Check, ERASED, ImageCheck, Stored, SumCheck, VectorOnly};
 use std::str::FromStr;
 
 mod text;
@@ -86,9 +86,10 @@ impl FromStr for Task {
 
 // The sums of an image by a checksum; None where it is shorter than its stored sum.
 pub fn sums_of<S: Checksum<Register: Stored>>(image: &[u8]) -> Option<Sums<S::Register>>
-    ensures { result ≡ sums_of S.Register.LENGTH S.Register.number (fold S.steps S.starts) image.now }
+    ensures { result ≡ sums_of S.Register.LENGTH S.Register.number (fold S.steps S.START) image.now }
 {
     let (stored, covered) = image::split_sum::<SumCheck<S>>(image)?;
+    // As in `image::accepts`, a closure stands where the prover does not take a bound's method by its name.
     Some(Sums {
         computed: crc::sum::<S>(covered),
         stored: stored
@@ -107,7 +108,7 @@ pub fn judge<C: ImageCheck>(image: &[u8]) -> Result<(), Reason>
     }
     match image::entry(image) {
         None => Err(Reason::NoEntry),
-        Some(0xFFFF) => Err(Reason::ErasedEntry),
+        Some(ERASED) => Err(Reason::ErasedEntry),
         Some(_) => Err(Reason::WrongSum),
     }
 }
@@ -134,12 +135,10 @@ pub fn inspect(image: &[u8]) -> Report
 pub fn seal(image: &mut [u8]) -> Result<Sealed, TooShort>
     ensures { Seals image.old image.new result }
 {
-    if image.len() < 2 {
+    let Some((stored, covered)) = image.split_first_chunk_mut::<2>() else {
         return Err(TooShort);
-    }
-    let sum = crc::sum::<CrcCcitt>(&image[2..]);
-    let [low, high] = sum.to_le_bytes();
-    image[0] = low;
-    image[1] = high;
+    };
+    let sum = crc::sum::<CrcCcitt>(covered);
+    *stored = sum.to_le_bytes();
     Ok(Sealed(sum))
 }

@@ -8,7 +8,7 @@ use hex_digits::{HexByte, HexWord};
 use std::error::Error;
 use std::fmt;
 
-// A number in digits, or why there is none.
+// A number in digits, or why there is none; public, so that a caller can show one number alone.
 #[derive(Clone, Copy, Debug, PartialEq, Eq)]
 pub struct Field<D>(pub Option<D>);
 
@@ -37,7 +37,7 @@ impl fmt::Display for Reason {
 
 impl Error for Reason {}
 
-// Whether an image may be started, in words.
+// Whether an image may be started, in words; public, so that a caller can show one verdict alone.
 #[derive(Clone, Copy, Debug, PartialEq, Eq)]
 pub struct Verdict(pub Result<(), Reason>);
 
@@ -67,7 +67,15 @@ impl fmt::Display for Report {
         let by_vector = Verdict(self.verdicts.vector);
         write!(
             f,
-            "length in bytes: {length}\nCRC-CCITT sum of all bytes after the first two: {ccitt}\nstored CRC-CCITT sum, the first two bytes: {stored_ccitt}\nCRC-8 sum of all bytes after the first: {crc8}\nstored CRC-8 sum, the first byte: {stored_crc8}\nentry, the last two bytes: {entry}\nmay be started, checked by CRC-CCITT: {by_ccitt}\nmay be started, checked by CRC-8: {by_crc8}\nmay be started, by its entry only: {by_vector}\n"
+            "length in bytes: {length}\n\
+             CRC-CCITT sum of all bytes after the first two: {ccitt}\n\
+             stored CRC-CCITT sum, the first two bytes: {stored_ccitt}\n\
+             CRC-8 sum of all bytes after the first: {crc8}\n\
+             stored CRC-8 sum, the first byte: {stored_crc8}\n\
+             entry, the last two bytes: {entry}\n\
+             may be started, checked by CRC-CCITT: {by_ccitt}\n\
+             may be started, checked by CRC-8: {by_crc8}\n\
+             may be started, by its entry only: {by_vector}\n"
         )
     }
 }

@@ -8,7 +8,7 @@ mod sums;
 use std::process::ExitCode;
 
 fn main(rt: HostRuntime) -> ExitCode {
-    program::ended(&rt, "vectors", run(&rt))
+    program::exit_code(&rt, "vectors", run(&rt))
 }
 
 fn run(rt: &HostRuntime) -> anyhow::Result<()> {

@@ -1,11 +1,9 @@
 // Published and independently worked out check values of the two sums.
-use anyhow::anyhow;
+use anyhow::ensure;
 use crc::{Crc8, CrcCcitt};
-use std::alloc::{AllocError, Global};
-use std::iter;
 
 // A list of bytes, by a part and how often it is repeated, and its two sums.
-#[derive(Clone, Copy)]
+#[derive(Clone, Copy, Debug)]
 struct Case {
     name: &'static str,
     unit: &'static [u8],
@@ -122,34 +120,24 @@ const CASES: [Case; 15] = [
     },
 ];
 
-fn repeated(heap: Global, case: Case) -> Result<Vec<u8>, AllocError> {
-    iter::repeat_n(case.unit, usize::from(case.times))
-        .flatten()
-        .copied()
-        .collect(heap)
-}
-
-// One line a case. Gives an error where one differs. The two counts stay with the printing: a filter and a count would be a second pass.
+// One line a case. Gives an error where one differs; the count stays with the printing, since a filter would be a second pass.
 pub fn run(rt: &HostRuntime) -> anyhow::Result<()> {
-    let mut agree = 0u32;
-    let mut differ = 0u32;
+    let mut differ = 0;
     for case in CASES {
-        let bytes = repeated(rt.alloc(), case)?;
+        let bytes = case.unit.repeat(rt.alloc(), usize::from(case.times))?;
         let ccitt = crc::sum::<CrcCcitt>(bytes.as_slice());
         let crc8 = crc::sum::<Crc8>(bytes.as_slice());
         let verdict = if ccitt == case.ccitt && crc8 == case.crc8 {
-            agree = agree.saturating_add(1);
             "agrees"
         } else {
-            differ = differ.saturating_add(1);
+            differ += 1;
             "DIFFERS"
         };
         let name = case.name;
         println!(rt; "{name}: CRC-CCITT 0x{ccitt:04X}, CRC-8 0x{crc8:02X}: {verdict}")?;
     }
+    let agree = CASES.len() - differ;
     println!(rt; "{agree} agree, {differ} differ")?;
-    if differ > 0 {
-        return Err(anyhow!("a check value differs"));
-    }
+    ensure!(differ == 0, "a check value differs");
     Ok(())
 }
