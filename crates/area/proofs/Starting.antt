@@ -1,12 +1,6 @@
 -- Whether an area is startable, by what is read at its places.
-use denote.Param.Members.{Mut}
-use Rattle.std.proofs.Common.{◌≡◌, ℕ, ◌+◌, ◌-◌, ◌<◌, ◌≤◌, Bool, false, List, [], ◌∷◌, length, get_or, fold, Some, Option, refl, sym, subst, ap, ◌∙◌, arith}
-use Rattle.std.specs.Fn.{Called}
-use Rattle.std.specs.Iterator.{FoldsItems}
+use Rattle.std.proofs.Common.{◌≡◌, ℕ, ◌+◌, ◌-◌, ◌<◌, ◌≤◌, Bool, false, List, length, get_or, Some, sym, subst, ◌∙◌, arith}
 use Rattle.std.proofs.lemmas.Bool.Decides.{nat_tests}
-use Rattle.std.proofs.lemmas.Fn.{fold_over}
-use Rattle.std.proofs.lemmas.Iterator.{YieldsList}
-use Rattle.std.proofs.lemmas.List.Sums.{fold-append}
 use Rattle.std.proofs.lemmas.List.FromFn.{length-map-range_with_len, get_or-map-range_with_len, fill_by_all}
 use Rattle.memory.specs.State.{State, at}
 use Rattle.image.specs.Sums.{word}
@@ -25,17 +19,6 @@ one_area s place count area = (
   λ e. subst (Reads s place count) (sym e) (record { length = reads_length s place count; bytes = λ i h. reads_at s place count i 0xFF h }),
 )
 
--- `fold` over what an iterator yields, with a closure that computes h
-pub folds_as : {S A B F C : Type 0} {steps : S → Option A → S → Type 0} {v : A → B} {g : Mut F (C × (A × Unit {0})) C} {f : F} {s : S} {a r : C} {all : List B}
-    → FoldsItems steps g s f a r → YieldsList steps v s all → (h : C → B → C)
-    → ((y : C) (x : A) (b : C) (q : F) → Called g f (y, (x, tt)) b q → (b ≡ h y (v x)) × (q ≡ f)) → r ≡ fold h a all
-folds_as {steps = steps} {v = v} {g = g} {f = f} {s = s} {a = a} {r = r} {all = all} ran yields h calls =
-    fold_over steps v g (λ ys b. b ≡ fold h a ys) f
-    (λ ys y x b q e k.
-    let c = calls y x b q k in
-    (c.0 ∙ ap (λ z. h z (v x)) e ∙ sym (fold-append h a ys (v x ∷ [])), c.1))
-    s all a r yields.runs refl ran
-
 module _ (s : State) (place count : ℕ) (accepts : List ℕ → Bool) where
   abbrev area : List ℕ
   area = reads s place count
@@ -48,8 +31,8 @@ module _ (s : State) (place count : ℕ) (accepts : List ℕ → Bool) where
         let b : get_or area (count - 1) 0 ≡ high = reads_at s place count (count - 1) 0 (omega arith) ∙ sym is_high in
         rw n (grind (arith, nat_tests))
 
-    pub erased_entry : low ≡ 0xFF → high ≡ 0xFF → false ≡ startable accepts area
-    erased_entry a b = rw entry_is (grind (arith, nat_tests))
+    pub erased_entry : word low high ≡ 0xFFFF → false ≡ startable accepts area
+    erased_entry e = rw entry_is (grind (arith, nat_tests))
 
     pub some_entry : (word low high ≡ 0xFFFF → ⊥) → accepts area ≡ startable accepts area
     some_entry h = rw entry_is (grind (arith, nat_tests))

@@ -10,7 +10,8 @@ use Rattle.layout.specs.Areas.{application_size, download_place}
 use Rattle.layout.specs.declared.divided.Layout.{Layout}
 use Rattle.rule.specs.Command.{Effect, effect, erase_segment, write_block, jump}
 use Rattle.rule.specs.Performed.{Performed}
-use Rattle.words.specs.declared.Answer.TheVariants.{Done, InvalidParams, IncorrectCommand, Version}
+use Rattle.words.specs.declared.Answer.{Answer}
+use Rattle.words.specs.declared.Answer.TheVariants.{Done, Version}
 use Rattle.words.specs.declared.Job.TheVariants.{HostCommand}
 use Rattle.words.specs.declared.Refusal.{Refusal}
 use Rattle.commands.specs.declared.Command.{Command}
@@ -21,15 +22,14 @@ use Rattle.commands.specs.declared.Response.{Response}
 abbrev pub ready : (List ℕ → Bool) → Layout → State → Bool
 ready accepts l s = startable accepts (reads s download_place (application_size l))
 
--- what a command does; `can` says whether the download area is startable
-abbrev pub effect_of : Layout → Bool → Command → Effect
-effect_of l can (C.EraseSegment address) = erase_segment l address
-effect_of l can C.EraseAll = effect (erases 1 l.k) Done
-effect_of l can (C.WriteBlock address block) = write_block l address block.now
-effect_of l can C.Version = effect [] Version
-effect_of l can C.Jump = jump can
-effect_of l can C.NoAddress = effect [] InvalidParams
-effect_of l can C.Unknown = effect [] IncorrectCommand
+-- what a command does, or the answer where a payload is none; `can` says whether the download area is startable
+abbrev pub effect_of : Layout → Bool → Result Command Answer → Effect
+effect_of l can (Ok (C.EraseSegment address)) = erase_segment l address
+effect_of l can (Ok C.EraseAll) = effect (erases 1 l.k) Done
+effect_of l can (Ok (C.WriteBlock address block)) = write_block l address block.now
+effect_of l can (Ok C.Version) = effect [] Version
+effect_of l can (Ok C.Jump) = jump can
+effect_of l can (Err answer) = effect [] answer
 
 -- what is sent back after an effect, and the phase then
 abbrev pub response : Effect → Response

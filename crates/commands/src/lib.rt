@@ -10,6 +10,7 @@ ghost use Rattle.rule.specs.Command.{effect, erase_segment, write_block, jump, o
 ghost use Rattle.words.specs.declared.Answer.TheVariants.{Done};
 ghost use Rattle.commands.specs.Obeyed.{ready, effect_of, Carried, Obeyed};
 ghost use Rattle.words.specs.declared.Job.TheVariants.{HostCommand};
+ghost use Rattle.words.specs.declared.Phase.TheVariants.{Listening};
 
 use area::startable_at;
 use image::ImageCheck;
@@ -26,8 +27,6 @@ pub enum Command<'p> {
     WriteBlock { address: u16, block: &'p [u8] },
     Version,
     Jump,
-    NoAddress,
-    Unknown,
 }
 
 // What is sent back, and what the controller does then.
@@ -37,35 +36,38 @@ pub struct Response {
     pub phase: Phase,
 }
 
-impl Response {
-    fn new(answer: Answer, phase: Phase) -> Response
-        ensures { result ≡ record { answer = answer; phase = phase } }
-    {
-        Response { answer, phase }
+// After an answer the controller goes on listening; only a jump has it wait.
+impl From<Answer> for Response {
+    ghost from_gives = { λ answer response. response ≡ record { answer = answer; phase = Listening } };
+
+    fn from(answer: Answer) -> Response {
+        Response {
+            answer,
+            phase: Phase::Listening,
+        }
     }
 }
 
-// The command that a payload is. Bytes that it has no use for are ignored, so this is no From, which would keep them.
-pub fn parse(payload: &[u8]) -> Command<'_>
+// The command that a payload is, or the answer to one that is none.
+// A payload may say more than its command needs, so this reads and does not convert.
+pub fn parse(payload: &[u8]) -> Result<Command<'_>, Answer>
     ensures { (l : Areas) (can : Bool) → effect_of l can result ≡ the_effect l can payload.now }
 {
     match payload {
-        [0x12, low, high, ..] => Command::EraseSegment {
+        [0x12, low, high, ..] => Ok(Command::EraseSegment {
             address: u16::from_le_bytes([*low, *high]),
-        },
-        [0x15, ..] => Command::EraseAll,
-        [0x10, low, high, block @ ..] => Command::WriteBlock {
+        }),
+        [0x15, ..] => Ok(Command::EraseAll),
+        [0x10, low, high, block @ ..] => Ok(Command::WriteBlock {
             address: u16::from_le_bytes([*low, *high]),
             block,
-        },
-        [0x19, ..] => Command::Version,
-        [0x1C, ..] => Command::Jump,
-        [0x10 | 0x12, ..] => Command::NoAddress,
-        _ => Command::Unknown,
+        }),
+        [0x19, ..] => Ok(Command::Version),
+        [0x1C, ..] => Ok(Command::Jump),
+        [0x10 | 0x12, ..] => Err(Answer::InvalidParams),
+        _ => Err(Answer::IncorrectCommand),
     }
 }
-
-// Memory and layout are passed side by side: each method of a struct of the two would have to promise as well that it still holds the same two.
 
 // How far an address lies above the first one that the host may name.
 fn offset(layout: &Layout, address: u16) -> Option<usize>
@@ -76,6 +78,8 @@ fn offset(layout: &Layout, address: u16) -> Option<usize>
 }
 
 // The address has to start a segment of the application area; the matching download segment is erased.
+// Memory and layout come side by side: a memory is passed beside the controller's record, which keeps the layout.
+#[tactic(auto, using(memory::specs::Ran::none, memory::specs::Ran::stop, memory::specs::Ran::more, crate::proofs::Carrying::erase_fine))]
 fn erase_segment<M: Memory>(
     memory: &mut M,
     layout: &Layout,
@@ -86,9 +90,9 @@ fn erase_segment<M: Memory>(
     match offset(layout, address) {
         Some(offset) if offset < layout.application_size() && offset % 512 == 0 => {
             memory.erase(1 + offset / 512)?;
-            Ok(Response::new(Answer::Done, Phase::Listening))
+            Ok(Answer::Done.into())
         }
-        _ => Ok(Response::new(Answer::InvalidParams, Phase::Listening)),
+        _ => Ok(Answer::InvalidParams.into()),
     }
 }
 
@@ -104,9 +108,9 @@ fn write_block<M: Memory>(
     match offset(layout, address) {
         Some(offset) if !block.is_empty() && offset + block.len() <= layout.application_size() => {
             write_all(memory, layout.download_place() + offset, block)?;
-            Ok(Response::new(Answer::Done, Phase::Listening))
+            Ok(Answer::Done.into())
         }
-        _ => Ok(Response::new(Answer::InvalidParams, Phase::Listening)),
+        _ => Ok(Answer::InvalidParams.into()),
     }
 }
 
@@ -114,7 +118,7 @@ fn erase_downloads<M: Memory>(memory: &mut M, layout: &Layout) -> Result<Respons
     ensures { Carried M.Memory.make (effect (erases 1 layout.now.k) Done) memory.old memory.new result }
 {
     erase_all(memory, 1, layout.k())?;
-    Ok(Response::new(Answer::Done, Phase::Listening))
+    Ok(Answer::Done.into())
 }
 
 // Whether the download area may be started.
@@ -125,17 +129,23 @@ fn is_ready<M: Memory, C: ImageCheck>(memory: &M, layout: &Layout) -> bool
 }
 
 // Marks a startable download area as approved. The controller waits in either case.
+#[tactic(auto, using(memory::specs::Ran::none, memory::specs::Ran::stop, memory::specs::Ran::more))]
 fn approve<M: Memory, C: ImageCheck>(memory: &mut M, layout: &Layout) -> Result<Response, Fault>
     ensures { Carried M.Memory.make (jump (ready (accepted C.ImageCheck.check) layout.now (M.Memory.make.state memory.old))) memory.old memory.new result }
 {
-    if is_ready::<M, C>(memory, layout) {
+    let answer = if is_ready::<M, C>(memory, layout) {
         memory.write(0, mark::APPROVED)?;
-        Ok(Response::new(Answer::Done, Phase::Waiting))
+        Answer::Done
     } else {
-        Ok(Response::new(Answer::InvalidParams, Phase::Waiting))
-    }
+        Answer::InvalidParams
+    };
+    Ok(Response {
+        answer,
+        phase: Phase::Waiting,
+    })
 }
 
+#[tactic(auto, using(memory::specs::Ran::none))]
 fn carry_out<M: Memory, C: ImageCheck>(
     memory: &mut M,
     layout: &Layout,
@@ -144,21 +154,20 @@ fn carry_out<M: Memory, C: ImageCheck>(
     ensures { Carried M.Memory.make (the_effect layout.now (ready (accepted C.ImageCheck.check) layout.now (M.Memory.make.state memory.old)) payload.now) memory.old memory.new result }
 {
     match parse(payload) {
-        Command::EraseSegment { address } => erase_segment(memory, layout, address),
-        Command::EraseAll => erase_downloads(memory, layout),
-        Command::WriteBlock { address, block } => write_block(memory, layout, address, block),
-        Command::Version => Ok(Response::new(Answer::Version, Phase::Listening)),
-        Command::Jump => approve::<M, C>(memory, layout),
-        Command::NoAddress => Ok(Response::new(Answer::InvalidParams, Phase::Listening)),
-        Command::Unknown => Ok(Response::new(Answer::IncorrectCommand, Phase::Listening)),
+        Ok(Command::EraseSegment { address }) => erase_segment(memory, layout, address),
+        Ok(Command::EraseAll) => erase_downloads(memory, layout),
+        Ok(Command::WriteBlock { address, block }) => write_block(memory, layout, address, block),
+        Ok(Command::Version) => Ok(Answer::Version.into()),
+        Ok(Command::Jump) => approve::<M, C>(memory, layout),
+        Err(answer) => Ok(answer.into()),
     }
 }
 
 // The host, whose changes all belong to its command.
 #[derive(Clone, Copy)]
-struct Host;
+struct HostWork;
 
-impl Work for Host {
+impl Work for HostWork {
     ghost jobs = { λ _ _. HostCommand };
 
     fn job(&self, _place: usize) -> Job {
@@ -174,5 +183,5 @@ pub fn obey<M: Memory, C: ImageCheck>(
 ) -> Result<Response, Refusal>
     ensures { Obeyed M.Memory.make (the_effect layout.now (ready (accepted C.ImageCheck.check) layout.now (M.Memory.make.state memory.old)) payload.now) memory.old memory.new result }
 {
-    carry_out::<M, C>(memory, layout, payload).map_err(|fault| Host.refusal(fault))
+    carry_out::<M, C>(memory, layout, payload).map_err(|fault| HostWork.refusal(fault))
 }

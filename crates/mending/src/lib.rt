@@ -1,11 +1,12 @@
 // What a restart does to the memory: an approved image is brought into place, and any mark goes.
 #![tactic(auto)]
 
-ghost use Rattle.std.specs.Prelude.{◌≡◌, ◌+◌, ◌*◌, ◌<◌, ◌≤◌};
+ghost use Rattle.std.specs.Prelude.{◌≡◌, ◌+◌, ◌*◌, ◌<◌, ◌≤◌, ◌==◌, if◌then◌else◌, Ok, Err};
 ghost use Rattle.memory.specs.State.{size as the_size};
 ghost use Rattle.memory.specs.Ran.{Ran};
 ghost use Rattle.layout.specs.Areas.{size as whole_size};
 ghost use Rattle.rule.specs.Restart.{copies, clears, mends, restart_job};
+ghost use Rattle.words.specs.declared.Refusal.TheVariants.{WrongSize};
 ghost use Rattle.mending.specs.Mended.{segment_copy, Mended};
 
 use layout::{Layout, mark};
@@ -13,8 +14,6 @@ use memory::{Fault, Memory, erase_all, write_all};
 use rule::Work;
 use std::array;
 use words::{Job, Refusal};
-
-// Memory and layout are passed side by side: each method of a struct of the two would have to promise as well that it still holds the same two.
 
 // Copies one segment over another by way of a buffer.
 fn copy_segment<M: Memory>(memory: &mut M, from: usize, to: usize) -> Result<(), Fault>
@@ -28,6 +27,7 @@ fn copy_segment<M: Memory>(memory: &mut M, from: usize, to: usize) -> Result<(),
 }
 
 // Copies each download segment over its application segment, from the lowest up.
+// Memory and layout come side by side: a memory is passed beside the controller's record, which keeps the layout.
 fn copy_all<M: Memory>(memory: &mut M, layout: &Layout) -> Result<(), Fault>
     requires { the_size (M.Memory.make.state memory.old) ≡ whole_size layout.now }
     ensures { Ran M.Memory.make (copies layout.now (M.Memory.make.state memory.old).bytes 0 layout.now.k) memory.old memory.new result }
@@ -40,6 +40,7 @@ fn copy_all<M: Memory>(memory: &mut M, layout: &Layout) -> Result<(), Fault>
 }
 
 // Erases the status segment, and the mark with it, then the download segments.
+#[tactic(auto, using(memory::specs::Ran::stop, memory::specs::Ran::more))]
 fn clear<M: Memory>(memory: &mut M, layout: &Layout) -> Result<(), Fault>
     ensures { Ran M.Memory.make (clears layout.now) memory.old memory.new result }
 {
@@ -48,6 +49,7 @@ fn clear<M: Memory>(memory: &mut M, layout: &Layout) -> Result<(), Fault>
 }
 
 // Makes the changes of a restart, by the mark.
+#[tactic(auto, using(memory::specs::Ran::none, crate::proofs::Copying::ran_then, crate::proofs::Copying::ran_stopped))]
 fn change<M: Memory>(memory: &mut M, layout: &Layout) -> Result<(), Fault>
     requires { the_size (M.Memory.make.state memory.old) ≡ whole_size layout.now }
     ensures { Ran M.Memory.make (mends layout.now (M.Memory.make.state memory.old).bytes) memory.old memory.new result }
@@ -62,12 +64,12 @@ fn change<M: Memory>(memory: &mut M, layout: &Layout) -> Result<(), Fault>
     }
 }
 
-// A restart, whose changes belong to a job by their places.
+// A restart's work, whose changes belong to a job by their places.
 #[derive(Clone, Copy)]
-struct Restart<'l>(&'l Layout);
+struct RestartWork<'l>(&'l Layout);
 
-impl Work for Restart<'_> {
-    ghost jobs = { λ restart. restart_job restart.0.now };
+impl Work for RestartWork<'_> {
+    ghost jobs = { λ work. restart_job work.0.now };
 
     fn job(&self, place: usize) -> Job {
         if place == 0 {
@@ -80,13 +82,22 @@ impl Work for Restart<'_> {
     }
 }
 
+// Refuses a memory of another size than the layout's.
+pub fn check_size<M: Memory>(memory: &M, layout: &Layout) -> Result<(), Refusal>
+    ensures { result ≡ (if the_size (M.Memory.make.state memory.now) == whole_size layout.now then Ok tt else Err WrongSize) }
+{
+    if memory.size() == layout.size() {
+        Ok(())
+    } else {
+        Err(Refusal::WrongSize)
+    }
+}
+
 // Brings an approved image into place and erases the mark and the download area, where there is a mark. A memory of another size than
 // the layout's is refused.
 pub fn mend<M: Memory>(memory: &mut M, layout: &Layout) -> Result<(), Refusal>
     ensures { Mended M.Memory.make layout.now memory.old memory.new result }
 {
-    if memory.size() != layout.size() {
-        return Err(Refusal::WrongSize);
-    }
-    change(memory, layout).map_err(|fault| Restart(layout).refusal(fault))
+    check_size(memory, layout)?;
+    change(memory, layout).map_err(|fault| RestartWork(layout).refusal(fault))
 }

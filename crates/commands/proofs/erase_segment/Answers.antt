@@ -1,17 +1,8 @@
 use Rattle.std.proofs.Common.{rules, ◌≡◌, ◌%◌, ap, ◌∙◌, arith}
-use Rattle.memory.specs.Ran.{none, stop, more}
-use Rattle.commands.proofs.Carrying.{erase_fine, erase_not}
+use Rattle.memory.specs.Ran.{none}
+use Rattle.commands.proofs.Carrying.{erase_not}
 use Rattle.commands.proofs.erase_segment.Goals as goal
 use Rattle.commands.proofs.erase_segment.Goals.{in_default-via-in-Some+then-offset-application_size+else-offset-eq0, in_default-via-in-Some+else-offset-application_size, in_default-via-in_default}
-
-pub returns-in_err-erase-in-Some : goal.returns-in_err-erase-in-Some
-returns-in_err-erase-in-Some g c =
-    search (rules, stop)
-
-pub returns-in_ok-erase-in-Some : goal.returns-in_ok-erase-in-Some
-returns-in_ok-erase-in-Some g c =
-    let e = erase_fine c.args.layout.now c.args.address c.in-Some.offset c.in-Some.ensures (omega arith) c.if-offset-eq0.true in
-    search (rules, more, none)
 
 pub returns-in_default : goal.returns-in_default
 returns-in_default g c =
