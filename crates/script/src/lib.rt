@@ -38,7 +38,7 @@ impl TryFrom<u8> for Kind {
     }
 }
 
-#[derive(Drop)]
+#[derive(Debug, Drop)]
 pub struct Script {
     pub layout: Layout,
     pub kind: Kind,
@@ -71,7 +71,7 @@ impl From<AllocError> for Stop {
     }
 }
 
-// For the `?` of a caller that pushes: what found no memory is let go.
+// For the `?` of a caller that pushes to a Vec, whose error gives the item back.
 impl<T: Drop> From<AllocFailed<T>> for Stop {
     ghost from_gives = { λ _ r. r ≡ OutOfMemory alloc_error };
 
