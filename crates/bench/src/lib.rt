@@ -14,7 +14,7 @@ use script::{Kind, Script, Stop};
 use std::alloc::{AllocError, Global};
 use words::{Reply, Turn};
 
-// The bytes of the largest layout.
+// The bytes of the largest layout: 105 segments of 512 bytes each.
 const LARGEST: usize = 53760;
 
 // Commissions a controller over an erased memory with these cuts, plays the turns on it, and fills in how they came out.
@@ -41,19 +41,19 @@ fn play_script(script: &mut Script)
 }
 
 // What is written for an input: a line for each call as it came out, and one for an input that is refused or ends malformed.
-pub fn tell(heap: Global, input: &[u8]) -> Result<Vec<u8>, AllocError>
+pub fn tell(alloc: Global, input: &[u8]) -> Result<Vec<u8>, AllocError>
     ensures { IfOk result (λ v. Told (the_script input.now) v.items) }
 {
-    match script::read(heap, input) {
+    match script::read(alloc, input) {
         Ok(mut script) => {
             play_script(&mut script);
-            line::lines(heap, script.turns.as_slice(), script.ending)
+            line::lines(alloc, script.turns.as_slice(), script.ending)
         }
         Err(Stop::Refused(why)) => {
-            let mut bytes = Vec::new(heap);
+            let mut bytes = Vec::new(alloc);
             line::append(&mut bytes, 0, Err(why))?;
             Ok(bytes)
         }
-        Err(Stop::OutOfMemory(full)) => Err(full),
+        Err(Stop::OutOfMemory(error)) => Err(error),
     }
 }

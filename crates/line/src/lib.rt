@@ -1,12 +1,11 @@
 // The lines that a bench writes: how each event of its script came out.
 #![tactic(auto)]
 
-ghost use Rattle.std.specs.Prelude.{◌≡◌, ◌++◌, IfOk, Some, OnOk, encode_utf8};
+ghost use Rattle.std.specs.Prelude.{◌≡◌, ◌++◌, IfOk, Some, is_ok, if◌then◌else◌, encode_utf8};
 ghost use Rattle.line.specs.One.{letter as the_letter, value as the_value, line_bytes};
 ghost use Rattle.line.specs.Every.{lines_from};
 
 use hex_digits::HexByte;
-use script::Ending;
 use std::alloc::{AllocError, Global};
 use std::fmt;
 use words::{Outcome, Phase, Refusal, Reply, Success, Turn};
@@ -54,27 +53,29 @@ impl fmt::Display for Line {
     }
 }
 
-// Appends the line of an event.
+// Appends the line of an event. After an error the bytes are as they were.
+// Bytes and no String: a type may ask no more of callers, so not for UTF-8, and `write!` says nothing of a String after an error.
 pub fn append(bytes: &mut Vec<u8>, number: usize, outcome: Outcome<Reply>) -> Result<(), AllocError>
-    ensures { OnOk result (bytes.new.items ≡ bytes.old.items ++ line_bytes number outcome) }
+    ensures { bytes.new.items ≡ (if is_ok result then bytes.old.items ++ line_bytes number outcome else bytes.old.items) }
 {
     let line = Line { number, outcome }.to_string(*bytes.allocator())?;
     bytes.extend_from_slice(line.as_bytes())
 }
 
-// The lines of a script that was played: one for each turn, up to the first that was not played, and one for a malformed ending.
-pub fn lines(heap: Global, turns: &[Turn<u8, Reply>], ending: Ending) -> Result<Vec<u8>, AllocError>
+// The lines of a script that was played: one for each turn, up to the first that was not played, and one for the refusal of its ending.
+pub fn lines(alloc: Global, turns: &[Turn<u8, Reply>], ending: Result<(), Refusal>) -> Result<Vec<u8>, AllocError>
     ensures { IfOk result (λ v. v.items ≡ lines_from 1 turns.now ending) }
 {
-    let mut bytes = Vec::new(heap);
+    let mut bytes = Vec::new(alloc);
+    // Counted from zero: a range `1..` beside the turns would end at the largest number.
     for (index, turn) in turns.iter().enumerate() {
         let Some(outcome) = turn.outcome else {
             return Ok(bytes);
         };
         append(&mut bytes, index + 1, outcome)?;
     }
-    if let Ending::Malformed = ending {
-        append(&mut bytes, turns.len() + 1, Err(Refusal::MalformedInput))?;
+    if let Err(why) = ending {
+        append(&mut bytes, turns.len() + 1, Err(why))?;
     }
     Ok(bytes)
 }

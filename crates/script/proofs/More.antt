@@ -1,15 +1,15 @@
 -- Cuts and events of pieces of the bytes, of the same length each.
-use Rattle.std.proofs.Common.{◌≡◌, ℕ, zero, suc, ◌/◌, ◌<◌, ◌≤◌, nat_le, List, [], ◌∷◌, map, length, get_or, take, drop, Option, Some, None, IfSome, Bor, sym, refl, ap, ◌∙◌, arith, length-take, length-drop}
+use Rattle.std.proofs.Common.{◌≡◌, ℕ, zero, suc, ◌+◌, ◌*◌, ◌/◌, ◌<◌, ◌≤◌, nat_le, List, [], ◌∷◌, map, length, get_or, take, drop, Option, Some, None, Ok, Err, Result, IfSome, Bor, sym, refl, ap, ◌∙◌, arith, length-take, length-drop}
 use Rattle.std.proofs.lemmas.Bool.{le-leb}
 use Rattle.std.proofs.lemmas.Bool.Decides.{nat_tests}
-use Rattle.std.proofs.lemmas.List.{get_or-take, get_or_default}
+use Rattle.std.proofs.lemmas.List.{drop-take, get_or-take, get_or_default, take-take}
 use Rattle.std.specs.List.{slice_get}
 use Rattle.std.specs.Option.{IsSomeAnd, MatchOption}
 use Rattle.std.specs.Simd.{first_chunks}
 use Rattle.models.specs.declared.simulated.Cut.{Cut}
 use Rattle.words.specs.declared.Call.{Call}
-use Rattle.script.specs.declared.Ending.{Ending}
-use Rattle.script.specs.declared.Ending.TheVariants.{Whole, Malformed}
+use Rattle.words.specs.declared.Refusal.{Refusal}
+use Rattle.words.specs.declared.Refusal.TheVariants.{MalformedInput}
 use Rattle.script.specs.Numbers.{at}
 use Rattle.script.specs.Cuts.{cut, cuts}
 use Rattle.script.specs.Events.{event, events, unplayed, before}
@@ -22,12 +22,11 @@ cut_front : (bytes : List ℕ) → cut (take 6 bytes) ≡ cut bytes
 cut_front bytes =
     simp (front 6 0 bytes (omega arith), front 6 1 bytes (omega arith), front 6 2 bytes (omega arith), front 6 3 bytes (omega arith), front 6 4 bytes (omega arith), front 6 5 bytes (omega arith))
 
-pub cuts_are : (count pieces : ℕ) (bytes : List ℕ) → count ≤ pieces → map cut (take count (first_chunks 6 pieces bytes)) ≡ cuts count bytes
-cuts_are zero pieces bytes h = refl
-cuts_are (suc count) zero bytes h = absurd (omega arith)
-cuts_are (suc count) (suc pieces) bytes h =
-    ap (λ (c : Cut). c ∷ map cut (take count (first_chunks 6 pieces (drop 6 bytes)))) (cut_front bytes)
-    ∙ ap (λ (cs : List Cut). cut bytes ∷ cs) (cuts_are count pieces (drop 6 bytes) (omega arith))
+pub cuts_are : (count : ℕ) (bytes : List ℕ) → map cut (first_chunks 6 count (take (6 * count) bytes)) ≡ cuts count bytes
+cuts_are zero bytes = refl
+cuts_are (suc count) bytes =
+    let more : 6 * suc count ≡ 6 + 6 * count = omega arith in
+    simp (more, take-take 6 (6 + 6 * count) bytes (omega arith), drop-take 6 (6 * count) bytes, cut_front bytes, cuts_are count (drop 6 bytes))
 
 event_front : (bytes : List ℕ) → 5 ≤ length bytes → event (take 5 bytes) ≡ event bytes
 event_front bytes h =
@@ -39,16 +38,16 @@ event_none : (bytes : List ℕ) → length bytes < 5 → event bytes ≡ None
 event_none bytes h = grind (arith, nat_tests)
 
 -- the events of pieces, each a call, up to the count, the last piece, or one that is no event
-pub events_are : (calls : List (Call ℕ)) (count pieces : ℕ) (bytes : List ℕ) (ending : Ending) → pieces ≡ length bytes / 5 → length calls ≤ count → length calls ≤ pieces
+pub events_are : (calls : List (Call ℕ)) (count pieces : ℕ) (bytes : List ℕ) (ending : Result Unit Refusal) → pieces ≡ length bytes / 5 → length calls ≤ count → length calls ≤ pieces
     → ((k : ℕ) → k < length calls → IfSome (slice_get calls k) (λ call. event (get_or (first_chunks 5 pieces bytes) k []) ≡ Some call))
     → (length calls < count → length calls < pieces → event (get_or (first_chunks 5 pieces bytes) (length calls) []) ≡ None)
-    → (length calls ≡ count → ending ≡ Whole) → (length calls < count → ending ≡ Malformed)
+    → (length calls ≡ count → ending ≡ Ok tt) → (length calls < count → ending ≡ Err MalformedInput)
     → events count bytes ≡ (map unplayed calls, ending)
-events_are [] zero pieces bytes ending all few fit each last whole early = ap (λ (e : Ending). ([], e)) (sym (whole refl))
+events_are [] zero pieces bytes ending all few fit each last whole early = ap (λ (e : Result Unit Refusal). ([], e)) (sym (whole refl))
 events_are [] (suc count) zero bytes ending all few fit each last whole early =
-    ap (λ o. before o (events count (drop 5 bytes))) (event_none bytes (omega arith)) ∙ ap (λ (e : Ending). ([], e)) (sym (early (omega arith)))
+    ap (λ o. before o (events count (drop 5 bytes))) (event_none bytes (omega arith)) ∙ ap (λ (e : Result Unit Refusal). ([], e)) (sym (early (omega arith)))
 events_are [] (suc count) (suc pieces) bytes ending all few fit each last whole early =
-    ap (λ o. before o (events count (drop 5 bytes))) (sym (event_front bytes (omega arith)) ∙ last (omega arith) (omega arith)) ∙ ap (λ (e : Ending). ([], e)) (sym (early (omega arith)))
+    ap (λ o. before o (events count (drop 5 bytes))) (sym (event_front bytes (omega arith)) ∙ last (omega arith) (omega arith)) ∙ ap (λ (e : Result Unit Refusal). ([], e)) (sym (early (omega arith)))
 events_are (call ∷ calls) zero pieces bytes ending all few fit each last whole early = absurd (omega arith)
 events_are (call ∷ calls) (suc count) zero bytes ending all few fit each last whole early = absurd (omega arith)
 events_are (call ∷ calls) (suc count) (suc pieces) bytes ending all few fit each last whole early =

@@ -1,11 +1,11 @@
 -- The events of a script.
-use Rattle.std.specs.Prelude.{ℕ, zero, suc, cond, ◌&&◌, List, [], ◌∷◌, length, drop, Some, None, Option, ◌==◌, nat_le}
+use Rattle.std.specs.Prelude.{ℕ, zero, suc, cond, ◌&&◌, List, [], ◌∷◌, length, drop, Some, None, Option, Ok, Err, Result, ◌==◌, nat_le}
 use Rattle.words.specs.declared.Call.{Call}
 use Rattle.words.specs.declared.Call.TheVariants.{Tell, Restart}
 use Rattle.words.specs.declared.Turn.{Turn}
 use Rattle.words.specs.Outcomes.{Reply}
-use Rattle.script.specs.declared.Ending.{Ending}
-use Rattle.script.specs.declared.Ending.TheVariants.{Whole, Malformed}
+use Rattle.words.specs.declared.Refusal.{Refusal}
+use Rattle.words.specs.declared.Refusal.TheVariants.{MalformedInput}
 use Rattle.script.specs.Numbers.{at, word}
 
 -- 0, the pin, the password and the status word
@@ -29,11 +29,11 @@ abbrev pub unplayed : Call ℕ → Turn ℕ Reply
 unplayed call = record { call = call; outcome = None }
 
 -- one event more at the front
-abbrev pub before : Option (Call ℕ) → List (Turn ℕ Reply) × Ending → List (Turn ℕ Reply) × Ending
-before None rest = ([], Malformed)
+abbrev pub before : Option (Call ℕ) → List (Turn ℕ Reply) × Result Unit Refusal → List (Turn ℕ Reply) × Result Unit Refusal
+before None rest = ([], Err MalformedInput)
 before (Some call) rest = (unplayed call ∷ rest.0, rest.1)
 
 -- so many events, up to the first that is malformed or missing
-abbrev pub events : ℕ → List ℕ → List (Turn ℕ Reply) × Ending
-events zero bytes = ([], Whole)
+abbrev pub events : ℕ → List ℕ → List (Turn ℕ Reply) × Result Unit Refusal
+events zero bytes = ([], Ok tt)
 events (suc count) bytes = before (event bytes) (events count (drop 5 bytes))

@@ -34,8 +34,8 @@ abbrev pub GivesCount : Result (ℕ × Bor (List ℕ)) Refusal → List ℕ → 
 GivesCount (Ok p) bytes = (2 ≤ length bytes) × (p.0 ≡ word bytes 0) × (p.1.now ≡ drop 2 bytes)
 GivesCount (Err why) bytes = (length bytes < 2) × (why ≡ MalformedInput)
 
--- so many cuts, where there are bytes enough
-abbrev pub GivesCuts : Result (Vec Cut Global) Stop → ℕ → List ℕ → Type 0
-GivesCuts (Ok v) count bytes = (6 * count ≤ length bytes) × (vec_items v ≡ cuts count bytes)
+-- so many cuts and the bytes after them, where there are bytes enough
+abbrev pub GivesCuts : Result (Vec Cut Global × Bor (List ℕ)) Stop → ℕ → List ℕ → Type 0
+GivesCuts (Ok p) count bytes = (6 * count ≤ length bytes) × (vec_items p.0 ≡ cuts count bytes) × (p.1.now ≡ drop (6 * count) bytes)
 GivesCuts (Err (Refused why)) count bytes = (length bytes < 6 * count) × (why ≡ MalformedInput)
 GivesCuts (Err (OutOfMemory full)) count bytes = Unit {0}

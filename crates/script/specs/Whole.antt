@@ -8,7 +8,6 @@ use Rattle.words.specs.declared.Refusal.TheVariants.{BadLayout, MalformedInput}
 use Rattle.layout.specs.Areas.{exists}
 use Rattle.script.specs.declared.Kind.{Kind}
 use Rattle.script.specs.declared.Kind.TheVariants.{Flash, Fram}
-use Rattle.script.specs.declared.Ending.{Ending}
 use Rattle.script.specs.Numbers.{at, word}
 use Rattle.script.specs.Cuts.{cuts}
 use Rattle.script.specs.Events.{events}
@@ -20,7 +19,7 @@ pub record Said : Type 0 where
   pub kind : Kind
   pub cuts : List Cut
   pub turns : List (Turn ℕ Reply)
-  pub ending : Ending
+  pub ending : Result Unit Refusal
 
 -- 0 is flash and 1 is FRAM
 abbrev pub kind_of : ℕ → Option Kind

@@ -38,20 +38,14 @@ impl TryFrom<u8> for Kind {
     }
 }
 
-// Whether the events are all there, or end before one that is malformed or missing.
-#[derive(Clone, Copy, Debug, PartialEq, Eq)]
-pub enum Ending {
-    Whole,
-    Malformed,
-}
-
-#[derive(Drop)]
+#[derive(Debug, Drop)]
 pub struct Script {
     pub layout: Layout,
     pub kind: Kind,
     pub cuts: Vec<Cut>,
     pub turns: Vec<Turn<u8, Reply>>,
-    pub ending: Ending,
+    // The refusal of an input whose events end before one that is malformed or missing.
+    pub ending: Result<(), Refusal>,
 }
 
 // Why there is no script.
@@ -70,23 +64,24 @@ impl From<Refusal> for Stop {
 }
 
 impl From<AllocError> for Stop {
-    ghost from_gives = { λ full r. r ≡ OutOfMemory full };
+    ghost from_gives = { λ error r. r ≡ OutOfMemory error };
 
-    fn from(full: AllocError) -> Stop {
-        Stop::OutOfMemory(full)
+    fn from(error: AllocError) -> Stop {
+        Stop::OutOfMemory(error)
     }
 }
 
+// For the `?` of a caller that pushes to a Vec, whose error gives the item back.
 impl<T: Drop> From<AllocFailed<T>> for Stop {
     ghost from_gives = { λ _ r. r ≡ OutOfMemory alloc_error };
 
-    fn from(full: AllocFailed<T>) -> Stop {
-        Stop::OutOfMemory(full.into())
+    fn from(error: AllocFailed<T>) -> Stop {
+        Stop::OutOfMemory(error.into())
     }
 }
 
 // A count of 16 bits, the low byte first, and the bytes after it.
-fn counted(bytes: &[u8]) -> Result<(u16, &[u8]), Refusal>
+fn take_count(bytes: &[u8]) -> Result<(u16, &[u8]), Refusal>
     ensures { GivesCount result bytes.now }
 {
     let (count, rest) = bytes
@@ -106,15 +101,15 @@ fn cut(bytes: &[u8; 6]) -> Cut
     }
 }
 
-// So many cuts, one after another.
-fn cuts(heap: Global, count: u16, bytes: &[u8]) -> Result<Vec<Cut>, Stop>
+// So many cuts, one after another, and the bytes after them.
+fn take_cuts(alloc: Global, count: u16, bytes: &[u8]) -> Result<(Vec<Cut>, &[u8]), Stop>
     ensures { GivesCuts result count bytes.now }
 {
-    let (pieces, _) = bytes.as_chunks::<6>();
-    let pieces = pieces
-        .get(..usize::from(count))
+    let (bytes, rest) = bytes
+        .split_at_checked(6 * usize::from(count))
         .ok_or(Refusal::MalformedInput)?;
-    Ok(pieces.iter().map(cut).collect(heap)?)
+    let (pieces, _) = bytes.as_chunks::<6>();
+    Ok((pieces.iter().map(cut).collect(alloc)?, rest))
 }
 
 // Five bytes are an event, where they are well formed: a restart, or a byte that was received.
@@ -132,12 +127,12 @@ fn event(bytes: &[u8; 5]) -> Option<Call<u8>>
     }
 }
 
-// So many events, up to the first that is malformed or missing.
+// So many events, up to the first that is malformed or missing, and the refusal where there is one.
 fn events(
-    heap: Global,
+    alloc: Global,
     count: u16,
     bytes: &[u8],
-) -> Result<(Vec<Turn<u8, Reply>>, Ending), AllocError>
+) -> Result<(Vec<Turn<u8, Reply>>, Result<(), Refusal>), AllocError>
     ensures { IfOk result (λ p. the_events count bytes.now ≡ (p.0.items, p.1)) }
 {
     let (pieces, _) = bytes.as_chunks::<5>();
@@ -149,31 +144,32 @@ fn events(
             call,
             outcome: None,
         })
-        .collect(heap)?;
+        .collect(alloc)?;
     let ending = if turns.len() == usize::from(count) {
-        Ending::Whole
+        Ok(())
     } else {
-        Ending::Malformed
+        Err(Refusal::MalformedInput)
     };
     Ok((turns, ending))
 }
 
 // Reads a whole input.
-pub fn read(heap: Global, input: &[u8]) -> Result<Script, Stop>
+pub fn read(alloc: Global, input: &[u8]) -> Result<Script, Stop>
     ensures { Gives result (the_script input.now) }
 {
+    // A `let else`: one pattern tests the count and takes the section apart, which no method with `?` does.
     let [3, k, b, kind, rest @ ..] = input else {
         return Err(Stop::Refused(Refusal::MalformedInput));
     };
     let kind = Kind::try_from(*kind)?;
-    let (count, rest) = counted(rest)?;
+    let (count, rest) = take_count(rest)?;
     if count > MOST_CUTS {
         return Err(Stop::Refused(Refusal::MalformedInput));
     }
-    let cuts = cuts(heap, count, rest)?;
+    let (cuts, rest) = take_cuts(alloc, count, rest)?;
     let layout = Layout::new(*k, *b)?;
-    let (count, rest) = counted(&rest[6 * usize::from(count)..])?;
-    let (turns, ending) = events(heap, count, rest)?;
+    let (count, rest) = take_count(rest)?;
+    let (turns, ending) = events(alloc, count, rest)?;
     Ok(Script {
         layout,
         kind,

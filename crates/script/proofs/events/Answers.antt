@@ -1,9 +1,9 @@
-use Rattle.std.proofs.Common.{◌≡◌, true, ℕ, ◌<◌, ◌≤◌, ◌/◌, List, Option, IfSome, Bor, length, map, get_or, vec_items, vec_len, sym, ap, ◌∙◌, refl, subst, arith, rules}
+use Rattle.std.proofs.Common.{◌≡◌, true, ℕ, ◌<◌, ◌≤◌, ◌/◌, List, Option, IfSome, Ok, Err, Bor, length, map, get_or, vec_items, vec_len, sym, ap, ◌∙◌, refl, subst, arith, rules}
 use Rattle.std.proofs.lemmas.List.{length-map}
 use Rattle.std.proofs.iter.runs.Made.{at-is}
 use Rattle.std.specs.Simd.{first_chunks}
 use Rattle.std.specs.Slice.Iter.{iter_rest}
-use Rattle.script.specs.declared.Ending.TheVariants.{Whole, Malformed}
+use Rattle.words.specs.declared.Refusal.TheVariants.{MalformedInput}
 use Rattle.script.specs.Events.{unplayed}
 use Rattle.script.proofs.More.{events_are, given, refused}
 use Rattle.script.proofs.events.Goals as goal
@@ -31,7 +31,7 @@ returns c =
     let is : (k : ℕ) → IfSome (came.0.at k) (λ x. x.now ≡ get_or xs k x.now) =
     λ k. subst (λ (p : Option (Bor (List ℕ)) × List (List ℕ)). IfSome p.0 (λ x. x.now ≡ get_or p.1 k x.now)) (λ i. (taken.1.2.0.2 k i, from i)) (read.8 k) in
     let made : vec_len c.in_ok-turns.turns ≡ length calls = omega (arith, c.in_ok-turns.turns.ok.0, ap length turns, length-map calls unplayed) in
-    let end : (length calls ≡ count → c.if-len-from.ending ≡ Whole) × (length calls < count → c.if-len-from.ending ≡ Malformed) =
+    let end : (length calls ≡ count → c.if-len-from.ending ≡ Ok tt) × (length calls < count → c.if-len-from.ending ≡ Err MalformedInput) =
     elim c.if-len-from.branch [
       | then-len-from w ↦ (λ h. w.ending-is, λ h. absurd (omega (arith, c.len.ensures, c.from-2.ensures, w.if-len-from.true)))
       | else-len-from w ↦ (λ h. absurd (omega (arith, c.len.ensures, c.from-2.ensures, w.if-len-from.false)), λ h. w.ending-is)
