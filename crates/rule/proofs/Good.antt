@@ -70,11 +70,11 @@ sized_more n rest =
 
 -- a list of n + 2 elements is its first n and the last two
 ends : (n : ℕ) (xs : List ℕ) → length xs ≡ n + 2 → xs ≡ take n xs ++ (get_or xs n 0 ∷ get_or xs (n + 1) 0 ∷ [])
-ends zero [] e = let never : ⊥ = omega arith in absurd never
-ends zero (x ∷ []) e = let never : ⊥ = omega arith in absurd never
+ends zero [] e = absurd (omega arith)
+ends zero (x ∷ []) e = absurd (omega arith)
 ends zero (x ∷ y ∷ []) e = refl
-ends zero (x ∷ y ∷ z ∷ xs) e = let never : ⊥ = omega arith in absurd never
-ends (suc n) [] e = let never : ⊥ = omega arith in absurd never
+ends zero (x ∷ y ∷ z ∷ xs) e = absurd (omega arith)
+ends (suc n) [] e = absurd (omega arith)
 ends (suc n) (x ∷ xs) e =
     let up : suc (n + 1) ≡ suc n + 1 = omega arith in
     ap (λ t. x ∷ t) (ends n xs (omega arith)) ∙ ap (λ k. x ∷ (take n xs ++ (get_or xs n 0 ∷ get_or (x ∷ xs) k 0 ∷ []))) up
@@ -150,13 +150,13 @@ frame_length bytes payload g =
 pub acts_on_good_frames : ActsOnGoodFrames
 acts_on_good_frames [] byte payload open_still small = (
   λ e. not_good refl (headed_is byte more (good payload) (error_not_good payload) e).1,
-  λ g. let never : ⊥ = omega (arith, frame_length _ payload g) in absurd never,
+  λ g. absurd (omega (arith, frame_length _ payload g)),
 )
 acts_on_good_frames (h ∷ []) byte payload open_still small = (
   λ e.
       let s = sized_good byte [] payload (headed_is h (sized byte []) (good payload) (error_not_good payload) e).1 in
-      let never : ⊥ = omega (arith, s.enough) in absurd never,
-  λ g. let never : ⊥ = omega (arith, frame_length _ payload g) in absurd never,
+      absurd (omega (arith, s.enough)),
+  λ g. absurd (omega (arith, frame_length _ payload g)),
 )
 acts_on_good_frames (h ∷ n ∷ rest) byte payload open_still small =
     let was = headed_is h (sized n rest) more error_not_more open_still in

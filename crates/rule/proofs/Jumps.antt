@@ -25,8 +25,8 @@ jumps_told accepts make e = (there, back)
     -- what a jump frame answers, once it was carried out, and that it was heard
     says : {b : ℕ} → JumpFrame e.before.control b → Said e.outcome → Called (Tell b) e.before e.after e.outcome
         → (is_listening e.before.control.phase ≡ true) × (e.outcome ≡ Ok (Success.Said (Some (jump can).answer)))
-    says j ok (mismatch off same out) = let z : ◌≡◌ {A = ℕ} 0 1 = cc (out, ok.1) in let never : ⊥ = omega arith in absurd never
-    says j ok (unheard fit deaf same out) = let z : ◌≡◌ {A = ℕ} 0 1 = cc (out, ok.1) in let never : ⊥ = omega arith in absurd never
+    says j ok (mismatch off same out) = absurd (cc (out, ok.1))
+    says j ok (unheard fit deaf same out) = absurd (cc (out, ok.1))
     says {b} j ok (did fit on (whole ran is out)) = (on, out ∙ ap (λ p. Ok (Success.Said p.says)) (jump_plan e.before.control can b j))
     says j ok (did fit on (cut p ran is out)) = absurd (lost_not_said e.outcome (p, _, out) ok)
 
@@ -51,5 +51,4 @@ jumps_told accepts make e = (there, back)
         startably true is = is
         startably false is =
             let out = told.1 ∙ ap (λ v. Ok (Success.Said (Some (jump v).answer))) is in
-            let z : ◌≡◌ {A = ℕ} 0 1 = cc (a.answer, out) in
-            let never : ⊥ = omega arith in absurd never
+            absurd (cc (a.answer, out))

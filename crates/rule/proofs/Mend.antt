@@ -68,7 +68,7 @@ module _ {M : Type 0} {make : Make M} (laws : Laws make) (l : Layout) where
   abbrev bytes : M → List ℕ
   bytes m = (mem m).bytes
 
-  -- a (Ok tt) copy of one segment
+  -- a finished copy of one segment
   segment_copied : (xs : List ℕ) (i : ℕ) {m n : M} → 512 * (1 + i) + 512 ≤ length xs → ((j : ℕ) → get_or xs j 255 < 256)
       → Ran make (copy l xs i) m n (Ok tt)
       → (q : ℕ) → q < 512 → at (mem n) (512 * (1 + l.k + i) + q) ≡ get_or xs (512 * (1 + i) + q) 255
@@ -83,7 +83,7 @@ module _ {M : Type 0} {make : Make M} (laws : Laws make) (l : Layout) where
       ∙ get_or_default (part from 512 xs) q 0 255 (omega arith)
       ∙ part_at from 512 xs q lt
 
-  -- a (Ok tt) copy of n segments from the i-th up
+  -- a finished copy of n segments from the i-th up
   copied : (xs : List ℕ) (i n : ℕ) {m o : M} → 512 * (1 + i + n) ≤ length xs → ((j : ℕ) → get_or xs j 255 < 256)
       → Ran make (copies l xs i n) m o (Ok tt)
       → (q : ℕ) → q < 512 * n → at (mem o) (512 * (1 + l.k + i) + q) ≡ get_or xs (512 * (1 + i) + q) 255
@@ -115,7 +115,7 @@ module _ {M : Type 0} {make : Make M} (laws : Laws make) (l : Layout) where
           ap (λ p. at (mem o) p) (sym e) ∙ again v b (q - 512) (omega arith) ∙ ap (λ p. get_or xs p 255) f)
           (cases_lt q 512)
 
-  -- what a copy of the whole download area leaves, (Ok tt) or cut
+  -- what a copy of the whole download area leaves, finished or cut
   record Copied (m n : M) (r : End) : Type 0 where
     pub mark : mark (bytes n) ≡ mark (bytes m)
     pub image : download l (bytes n) ≡ download l (bytes m)
@@ -182,7 +182,7 @@ module _ {M : Type 0} {make : Make M} (laws : Laws make) (l : Layout) where
       let top = 512 * (1 + 2 * l.k) in
       ran_part laws h 0 top (mends_within l (bytes m) sized) top (512 * l.b) (inr (omega arith))
 
-  -- a (Ok tt) restart leaves the mark erased
+  -- a finished restart leaves the mark erased
   pub mended_mark : {m n : M} → Ran make (mends l (bytes m)) m n (Ok tt) → mark (bytes n) ≡ 0xFF
   mended_mark {m} {n} h = by (marks l (bytes m))
     where
@@ -195,7 +195,7 @@ module _ {M : Type 0} {make : Make M} (laws : Laws make) (l : Layout) where
       by (blank x e) = ap (λ v. mark (bytes v)) (nothing_ran (ran_as e h)).0 ∙ x
       by (spoiled x y e) = cleared_mark (ran_as e h)
 
-  -- what is pending stays so at a cut, and is there once a restart has (Ok tt)
+  -- what is pending stays so at a cut, and is there once a restart has finished
   module _ (Q : List ℕ → Type 0) (img : List ℕ) (wanted : Q img) where
     -- the image in place, or what was there
     settled : {m n : M} {r : End} → Q (application l (bytes m)) → download l (bytes m) ≡ img

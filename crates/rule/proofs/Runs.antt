@@ -27,19 +27,15 @@ phase_is : {R : Type 0} {p q : Phase} → ◌≡◌ {A = Outcome R} (Ok (Success
 phase_is e = cc
 
 event_not_restart : {Event : Type 0} {c : Call Event} {x : Event} → c ≡ Tell x → Restarts c → ⊥
-event_not_restart e r = let z : ◌≡◌ {A = ℕ} 0 1 = cc (e, r.1) in omega arith
+event_not_restart e r = absurd (cc (e, r.1))
 
 -- to choose running is to have found the area startable
 chosen_startable : (accepts : List ℕ → Bool) (i : Inputs) (xs : List ℕ)
     → choice accepts i xs ≡ Running → startable accepts xs ≡ true
 chosen_startable accepts i xs =
     let P : Phase → Type 0 = λ p. p ≡ Running → startable accepts xs ≡ true in
-    cond_both (forced i) _ _ P (λ _ e. absurd (apart e))
-    (λ _. cond_both (startable accepts xs) _ _ P (λ can e. can) (λ _ e. absurd (apart e)))
-  where
-    apart : Listening ≡ Running → ⊥
-    apart e = absurd cc
-
+    cond_both (forced i) _ _ P (λ _ e. absurd cc)
+    (λ _. cond_both (startable accepts xs) _ _ P (λ can e. can) (λ _ e. absurd cc))
 none_false : {X : Type 0} (xs : List X) → None (λ _. ⊥) xs
 none_false [] = tt
 none_false (x ∷ xs) = (λ f. f, none_false xs)

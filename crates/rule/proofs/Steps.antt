@@ -28,13 +28,13 @@ waiting_not e = absurd cc
 
 -- a call answers in one way
 pub lost_not_said : {R : Type 0} (o : Outcome R) → Lost o → Said o → ⊥
-lost_not_said o a b = let z : ◌≡◌ {A = ℕ} 0 1 = cc (a.2, b.1) in omega arith
+lost_not_said o a b = absurd (cc (a.2, b.1))
 
 pub lost_not_chosen : {R : Type 0} (o : Outcome R) → Lost o → Chose o → ⊥
-lost_not_chosen o a b = let z : ◌≡◌ {A = ℕ} 0 1 = cc (a.2, b.1) in omega arith
+lost_not_chosen o a b = absurd (cc (a.2, b.1))
 
 said_not_chosen : {R : Type 0} (o : Outcome R) → Said o → Chose o → ⊥
-said_not_chosen o a b = let z : ◌≡◌ {A = ℕ} 0 1 = cc (a.1, b.1) in omega arith
+said_not_chosen o a b = absurd (cc (a.1, b.1))
 
 module _ {M : Type 0} {E : Engine M} where
   -- the sizes agree, and a controller that listens has no mark
@@ -214,7 +214,7 @@ module _ {M : Type 0} {E : Engine M} (law : Law E.bus) (laws : Laws E.make)
     layouts = ap layout same;
     sizes = ap (λ v. length (bytes v)) same;
     boots = ap booted same;
-    kind = told x is (λ y. let z : ◌≡◌ {A = ℕ} 0 1 = cc (out, y.1) in omega arith) (quiet (ap bytes same) (λ on. sym (ap (λ v. v.control.phase) same) ∙ on));
+    kind = told x is (λ y. absurd (cc (out, y.1))) (quiet (ap bytes same) (λ on. sym (ap (λ v. v.control.phase) same) ∙ on));
   }
 
   -- every call
