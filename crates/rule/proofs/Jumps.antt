@@ -1,5 +1,5 @@
 -- On frames, jumps are told by their answer.
-use Rattle.std.proofs.Common.{◌≡◌, ℕ, Bool, true, false, List, refl, ap, ◌∙◌, subst, arith, Some, Ok}
+use Rattle.std.proofs.Common.{◌≡◌, ℕ, Bool, true, false, List, refl, ap, ◌∙◌, subst, Some, Ok}
 use Rattle.memory.specs.Make.{Make}
 use Rattle.image.specs.Startable.{startable}
 use Rattle.rule.specs.Calls.{downloaded, whole, cut, Called, mismatch, unheard, did}

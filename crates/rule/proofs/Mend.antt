@@ -1,9 +1,10 @@
 -- What a restart leaves, finished or cut.
 use Rattle.std.proofs.Common.{◌≡◌, ℕ, zero, suc, ◌+◌, ◌-◌, ◌*◌, ◌<◌, ◌≤◌, cond, eqb, ◌⊎◌, List, [], ◌++◌, length, get_or, Ok, sym, refl, ap, ◌∙◌, subst, inl, inr, ⊎_elim, arith, length-drop, length-take}
-use Rattle.std.proofs.lemmas.Bool.{cases_lt, cases_eq, eq-eqb, ne_eqb, cond-true, cond-false, cond_both}
+use Rattle.std.proofs.lemmas.Bool.{cases_lt, cases_eq, cond_both}
+use Rattle.std.proofs.lemmas.Bool.Decides.{nat_tests}
 use Rattle.std.proofs.lemmas.List.{get_or_default}
 use Rattle.memory.specs.State.{State, at, size}
-use Rattle.memory.specs.Change.{Change, erase, End}
+use Rattle.memory.specs.Change.{erase, End}
 use Rattle.memory.specs.Make.{Make, Laws}
 use Rattle.memory.specs.Ran.{Ran, stop, more, erases, Within}
 use Rattle.memory.proofs.Effects.{not_refused, changed_left, nothing_ran, ran_as, ran_to, Split, early, late, split}
@@ -21,26 +22,9 @@ data Marked (l : Layout) (xs : List ℕ) : Type 0 where
 
 marks : (l : Layout) (xs : List ℕ) → Marked l xs
 marks l xs =
-    ⊎_elim
-    (λ is.
-    let other : x ≡ 0xFF → ⊥ = λ e. omega arith in
-    approved is (λ i. cond-true _ cs [] (eq-eqb x 0x5A is) i ++ cond-false _ [] ds (ne_eqb x 0xFF other) i))
-    (λ other. ⊎_elim
-    (λ is.
-    blank is (λ i. cond-false _ cs [] (ne_eqb x 0x5A other) i ++ cond-true _ [] ds (eq-eqb x 0xFF is) i))
-    (λ non.
-    spoiled other non (λ i. cond-false _ cs [] (ne_eqb x 0x5A other) i ++ cond-false _ [] ds (ne_eqb x 0xFF non) i))
-    (cases_eq x 0xFF))
-    (cases_eq x 0x5A)
-  where
-    x : ℕ
-    x = mark xs
-
-    cs : List Change
-    cs = copies l xs 0 l.k
-
-    ds : List Change
-    ds = clears l
+    ⊎_elim (λ is. approved is (grind (arith, nat_tests)))
+    (λ other. ⊎_elim (λ is. blank is (grind (arith, nat_tests))) (λ non. spoiled other non (grind (arith, nat_tests))) (cases_eq (mark xs) 0xFF))
+    (cases_eq (mark xs) 0x5A)
 
 -- a restart stays below the boot area
 pub mends_within : (l : Layout) (xs : List ℕ) → length xs ≡ whole_size l → Within 0 (512 * (1 + 2 * l.k)) (mends l xs)

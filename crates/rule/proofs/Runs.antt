@@ -1,12 +1,13 @@
 -- The rule over runs.
 use Rattle.std.proofs.Common.{◌≡◌, ℕ, Bool, true, ◌⊎◌, List, [], ◌∷◌, length, Ok, sym, refl, ap, ◌∙◌, subst, inl, inr, ⊎_elim, arith}
-use Rattle.std.proofs.lemmas.Bool.{eqb-true, cond_both}
+use Rattle.std.proofs.lemmas.Bool.{eqb-true}
+use Rattle.std.proofs.lemmas.Bool.Decides.{nat_tests}
 use Rattle.memory.specs.Make.{Laws}
 use Rattle.memory.proofs.Effects.{ran_to}
 use Rattle.image.specs.Startable.{startable}
 use Rattle.layout.specs.Areas.{size as whole_size, mark, download, application, boot}
 use Rattle.rule.specs.Bus.{Law}
-use Rattle.rule.specs.Restart.{forced, choice}
+use Rattle.rule.specs.Restart.{choice}
 use Rattle.rule.specs.Calls.{Engine, Machine, layout, bytes, downloaded, applied, booted}
 use Rattle.rule.specs.Rule.{None, Some, Chose, Restarts, Step, Jump, Accepted, Cut, image, Finished}
 use Rattle.rule.specs.Rule.{Commissioned, History, Reached, Update, Lull, FirstFinished, FirstUncut}
@@ -32,10 +33,8 @@ event_not_restart e r = absurd (cc (e, r.1))
 -- to choose running is to have found the area startable
 chosen_startable : (accepts : List ℕ → Bool) (i : Inputs) (xs : List ℕ)
     → choice accepts i xs ≡ Running → startable accepts xs ≡ true
-chosen_startable accepts i xs =
-    let P : Phase → Type 0 = λ p. p ≡ Running → startable accepts xs ≡ true in
-    cond_both (forced i) _ _ P (λ _ e. absurd cc)
-    (λ _. cond_both (startable accepts xs) _ _ P (λ can e. can) (λ _ e. absurd cc))
+chosen_startable accepts i xs e = grind (arith, nat_tests)
+
 none_false : {X : Type 0} (xs : List X) → None (λ _. ⊥) xs
 none_false [] = tt
 none_false (x ∷ xs) = (λ f. f, none_false xs)

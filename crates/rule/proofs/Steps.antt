@@ -1,6 +1,6 @@
 -- What one call leaves, in the words of the rule.
 use Rattle.std.proofs.Common.{◌≡◌, ℕ, ◌+◌, ◌*◌, ◌≤◌, Bool, true, ◌⊎◌, List, [], ◌∷◌, length, Ok, sym, refl, ap, ◌∙◌, subst, inl, inr, ⊎_elim, arith, Err}
-use Rattle.std.proofs.lemmas.Bool.{eq-eqb, false≢true}
+use Rattle.std.proofs.lemmas.Bool.{eq-eqb}
 use Rattle.memory.specs.Change.{Change, write, End}
 use Rattle.memory.specs.Make.{Laws}
 use Rattle.memory.specs.Ran.{Ran, stop, more, Within}
@@ -223,10 +223,10 @@ module _ {M : Type 0} {E : Engine M} (law : Law E.bus) (laws : Laws E.make)
     where
       by : (call : Call E.bus.Event) → e.call ≡ call
           → Called call e.before e.after e.outcome → Went e
-      by call is (mismatch off same out) = absurd (false≢true (sym off ∙ eq-eqb _ _ s.size))
+      by call is (mismatch off same out) = absurd (cc (eq-eqb _ _ s.size))
       by (Tell x) is (unheard fit deaf same out) = still x is same out
       by (Tell x) is (did fit on h) = carried x is on (ended h) (law.otherwise e.before.control _ x on)
-      by (Restart i) is (unheard fit deaf same out) = absurd (false≢true (sym deaf))
+      by (Restart i) is (unheard fit deaf same out) = absurd cc
       by (Restart i) is (did fit on h) = restarted i is h
 
   -- a jump that found the download area startable
@@ -234,8 +234,8 @@ module _ {M : Type 0} {E : Engine M} (law : Law E.bus) (laws : Laws E.make)
   jump_step j = by (subst (λ v. Called v e.before e.after e.outcome) j.call e.called)
     where
       by : Called (Tell j.event) e.before e.after e.outcome → Jumped e
-      by (mismatch off same out) = absurd (false≢true (sym off ∙ eq-eqb _ _ s.size))
-      by (unheard fit deaf same out) = absurd (false≢true (sym deaf ∙ j.heard))
+      by (mismatch off same out) = absurd (cc (eq-eqb _ _ s.size))
+      by (unheard fit deaf same out) = absurd cc
       by (did fit on h) =
           let d = ended h in
           leaped j.event j.call on d (approval j.event j.call on d j.command j.can)
