@@ -9,7 +9,6 @@ use Rattle.rule.specs.Frames.{is_listening, JumpFrame, JumpAnswered, JumpsTold}
 use Rattle.rule.proofs.FramesLaw.{jump_plan}
 use Rattle.words.specs.declared.Call.TheVariants.{Tell}
 use Rattle.words.specs.declared.Success.TheVariants as Success
-use Rattle.rule.proofs.Steps.{lost_not_said}
 
 -- On frames an accepted jump is a jump frame that is answered 0x00.
 pub jumps_told : {M : Type 0} (accepts : List ℕ → Bool) (make : Make M) → JumpsTold accepts make
@@ -28,7 +27,7 @@ jumps_told accepts make e = (there, back)
     says j ok (mismatch off same out) = absurd (cc (out, ok.1))
     says j ok (unheard fit deaf same out) = absurd (cc (out, ok.1))
     says {b} j ok (did fit on (whole ran is out)) = (on, out ∙ ap (λ p. Ok (Success.Said p.says)) (jump_plan e.before.control can b j))
-    says j ok (did fit on (cut p ran is out)) = absurd (lost_not_said e.outcome (p, _, out) ok)
+    says j ok (did fit on (cut p ran is out)) = absurd (cc (out, ok.1))
 
     there : Accepted e → JumpAnswered e
     there (j, ok) = record {

@@ -7,7 +7,7 @@ use Rattle.memory.specs.State.{State, at, size}
 use Rattle.memory.specs.Change.{erase, End}
 use Rattle.memory.specs.Make.{Make, Laws}
 use Rattle.memory.specs.Ran.{Ran, stop, more, erases, Within}
-use Rattle.memory.proofs.Effects.{not_refused, changed_left, nothing_ran, ran_as, ran_to, Split, early, late, split}
+use Rattle.memory.proofs.Effects.{changed_left, nothing_ran, ran_as, ran_to, Split, early, late, split}
 use Rattle.memory.proofs.Effects.{within_append, erases_within, ran_size, ran_apart, stand, wrote}
 use Rattle.layout.specs.Areas.{size as whole_size, part, mark, download, application, boot}
 use Rattle.layout.specs.declared.divided.Layout.{Layout}
@@ -56,7 +56,7 @@ module _ {M : Type 0} {make : Make M} (laws : Laws make) (l : Layout) where
   segment_copied : (xs : List ℕ) (i : ℕ) {m n : M} → 512 * (1 + i) + 512 ≤ length xs → ((j : ℕ) → get_or xs j 255 < 256)
       → Ran make (copy l xs i) m n (Ok tt)
       → (q : ℕ) → q < 512 → at (mem n) (512 * (1 + l.k + i) + q) ≡ get_or xs (512 * (1 + i) + q) 255
-  segment_copied xs i {m} {n} long small (stop f h a) q lt = not_refused refl a
+  segment_copied xs i {m} {n} long small (stop f h a) q lt = absurd cc
   segment_copied xs i {m} {n} long small (more {n = o} h t) q lt =
       let from = 512 * (1 + i) in
       let to = 512 * (1 + l.k + i) in
@@ -85,7 +85,7 @@ module _ {M : Type 0} {make : Make M} (laws : Laws make) (l : Layout) where
           → (j : ℕ) → j < 512 * n → at (mem o) (to + j) ≡ get_or xs (from + j) 255)
           → Split make (copy l xs i) (copies l xs (i + 1) n) m o (Ok tt)
           → at (mem o) (512 * (1 + l.k + i) + q) ≡ get_or xs (512 * (1 + i) + q) 255
-      by again (early f e u) = not_refused refl e
+      by again (early f e u) = absurd cc
       by again (late {o = v} a b) =
           ⊎_elim
           (λ low.
@@ -147,7 +147,7 @@ module _ {M : Type 0} {make : Make M} (laws : Laws make) (l : Layout) where
   cleared_safe (more f t) = inl (unmarked f t)
 
   cleared_mark : {m n : M} → Ran make (clears l) m n (Ok tt) → mark (bytes n) ≡ 0xFF
-  cleared_mark (stop f h a) = not_refused refl a
+  cleared_mark (stop f h a) = absurd cc
   cleared_mark (more f t) = unmarked f t
 
   -- a restart with the mark erased changes nothing
@@ -174,7 +174,7 @@ module _ {M : Type 0} {make : Make M} (laws : Laws make) (l : Layout) where
       by (approved x e) = last (split _ _ (ran_as e h))
         where
           last : Split make (copies l (bytes m) 0 l.k) (clears l) m n (Ok tt) → mark (bytes n) ≡ 0xFF
-          last (early f e u) = not_refused refl e
+          last (early f e u) = absurd cc
           last (late u v) = cleared_mark v
       by (blank x e) = ap (λ v. mark (bytes v)) (nothing_ran (ran_as e h)).0 ∙ x
       by (spoiled x y e) = cleared_mark (ran_as e h)
@@ -198,7 +198,7 @@ module _ {M : Type 0} {make : Make M} (laws : Laws make) (l : Layout) where
             → Pending l Q img (bytes n) × (r ≡ Ok tt → Q (application l (bytes n)))
         copied_on is x (early f a u) =
             let c = all_copied sized u in
-            (inl (c.mark ∙ x, c.image ∙ is), λ e. not_refused e a)
+            (inl (c.mark ∙ x, c.image ∙ is), λ e. absurd cc)
         copied_on is x (late u v) =
             let c = all_copied sized u in
             settled (subst Q (sym (c.done refl ∙ is)) wanted) (c.image ∙ is) v
