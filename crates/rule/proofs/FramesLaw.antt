@@ -15,9 +15,6 @@ use Rattle.words.specs.declared.Phase.{Phase}
 use Rattle.words.specs.declared.Phase.TheVariants.{Waiting, Listening, Running}
 use Rattle.words.specs.Outcomes.{Reply}
 
-waiting_not : Waiting ≡ Listening → ⊥
-waiting_not e = absurd cc
-
 listening : (p : Phase) → is_listening p ≡ true → p ≡ Listening
 listening Waiting e = absurd (false≢true e)
 listening Listening e = refl
@@ -71,7 +68,7 @@ module _ (c : Receiver) (can : Bool) (byte : ℕ) (on : c.phase ≡ Listening) w
 
   jump_lawful : (rest : List ℕ) → judge (c.packet ++ byte ∷ []) ≡ good (0x1C ∷ rest) → (v : Bool) → can ≡ v → Q (jump v)
   jump_lawful rest f true e = inl (record { rest = rest; frame = f }, e)
-  jump_lawful rest f false e = inr (idle refl (λ x. absurd (waiting_not x)))
+  jump_lawful rest f false e = inr (idle refl (λ x. absurd cc))
 
   obey_lawful : (payload : List ℕ) → judge (c.packet ++ byte ∷ []) ≡ good payload → Q (obey l can payload)
   obey_lawful [] e = inr (fills on tt)

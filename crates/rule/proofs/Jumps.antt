@@ -1,5 +1,5 @@
 -- On frames, jumps are told by their answer.
-use Rattle.std.proofs.Common.{◌≡◌, ℕ, Bool, true, false, List, refl, ap, ◌∙◌, subst, arith, Some, Ok}
+use Rattle.std.proofs.Common.{◌≡◌, ℕ, Bool, true, false, List, refl, ap, ◌∙◌, subst, Some, Ok}
 use Rattle.memory.specs.Make.{Make}
 use Rattle.image.specs.Startable.{startable}
 use Rattle.rule.specs.Calls.{downloaded, whole, cut, Called, mismatch, unheard, did}
@@ -9,7 +9,6 @@ use Rattle.rule.specs.Frames.{is_listening, JumpFrame, JumpAnswered, JumpsTold}
 use Rattle.rule.proofs.FramesLaw.{jump_plan}
 use Rattle.words.specs.declared.Call.TheVariants.{Tell}
 use Rattle.words.specs.declared.Success.TheVariants as Success
-use Rattle.rule.proofs.Steps.{lost_not_said}
 
 -- On frames an accepted jump is a jump frame that is answered 0x00.
 pub jumps_told : {M : Type 0} (accepts : List ℕ → Bool) (make : Make M) → JumpsTold accepts make
@@ -25,10 +24,10 @@ jumps_told accepts make e = (there, back)
     -- what a jump frame answers, once it was carried out, and that it was heard
     says : {b : ℕ} → JumpFrame e.before.control b → Said e.outcome → Called (Tell b) e.before e.after e.outcome
         → (is_listening e.before.control.phase ≡ true) × (e.outcome ≡ Ok (Success.Said (Some (jump can).answer)))
-    says j ok (mismatch off same out) = let z : ◌≡◌ {A = ℕ} 0 1 = cc (out, ok.1) in let never : ⊥ = omega arith in absurd never
-    says j ok (unheard fit deaf same out) = let z : ◌≡◌ {A = ℕ} 0 1 = cc (out, ok.1) in let never : ⊥ = omega arith in absurd never
+    says j ok (mismatch off same out) = absurd (cc (out, ok.1))
+    says j ok (unheard fit deaf same out) = absurd (cc (out, ok.1))
     says {b} j ok (did fit on (whole ran is out)) = (on, out ∙ ap (λ p. Ok (Success.Said p.says)) (jump_plan e.before.control can b j))
-    says j ok (did fit on (cut p ran is out)) = absurd (lost_not_said e.outcome (p, _, out) ok)
+    says j ok (did fit on (cut p ran is out)) = absurd (cc (out, ok.1))
 
     there : Accepted e → JumpAnswered e
     there (j, ok) = record {
@@ -51,5 +50,4 @@ jumps_told accepts make e = (there, back)
         startably true is = is
         startably false is =
             let out = told.1 ∙ ap (λ v. Ok (Success.Said (Some (jump v).answer))) is in
-            let z : ◌≡◌ {A = ℕ} 0 1 = cc (a.answer, out) in
-            let never : ⊥ = omega arith in absurd never
+            absurd (cc (a.answer, out))

@@ -1,12 +1,13 @@
 -- What a restart leaves, finished or cut.
 use Rattle.std.proofs.Common.{◌≡◌, ℕ, zero, suc, ◌+◌, ◌-◌, ◌*◌, ◌<◌, ◌≤◌, cond, eqb, ◌⊎◌, List, [], ◌++◌, length, get_or, Ok, sym, refl, ap, ◌∙◌, subst, inl, inr, ⊎_elim, arith, length-drop, length-take}
-use Rattle.std.proofs.lemmas.Bool.{cases_lt, cases_eq, eq-eqb, ne_eqb, cond-true, cond-false, cond_both}
+use Rattle.std.proofs.lemmas.Bool.{cases_lt, cases_eq, cond_both}
+use Rattle.std.proofs.lemmas.Bool.Decides.{nat_tests}
 use Rattle.std.proofs.lemmas.List.{get_or_default}
 use Rattle.memory.specs.State.{State, at, size}
-use Rattle.memory.specs.Change.{Change, erase, End}
+use Rattle.memory.specs.Change.{erase, End}
 use Rattle.memory.specs.Make.{Make, Laws}
 use Rattle.memory.specs.Ran.{Ran, stop, more, erases, Within}
-use Rattle.memory.proofs.Effects.{not_refused, changed_left, nothing_ran, ran_as, ran_to, Split, early, late, split}
+use Rattle.memory.proofs.Effects.{changed_left, nothing_ran, ran_as, ran_to, Split, early, late, split}
 use Rattle.memory.proofs.Effects.{within_append, erases_within, ran_size, ran_apart, stand, wrote}
 use Rattle.layout.specs.Areas.{size as whole_size, part, mark, download, application, boot}
 use Rattle.layout.specs.declared.divided.Layout.{Layout}
@@ -21,26 +22,9 @@ data Marked (l : Layout) (xs : List ℕ) : Type 0 where
 
 marks : (l : Layout) (xs : List ℕ) → Marked l xs
 marks l xs =
-    ⊎_elim
-    (λ is.
-    let other : x ≡ 0xFF → ⊥ = λ e. omega arith in
-    approved is (λ i. cond-true _ cs [] (eq-eqb x 0x5A is) i ++ cond-false _ [] ds (ne_eqb x 0xFF other) i))
-    (λ other. ⊎_elim
-    (λ is.
-    blank is (λ i. cond-false _ cs [] (ne_eqb x 0x5A other) i ++ cond-true _ [] ds (eq-eqb x 0xFF is) i))
-    (λ non.
-    spoiled other non (λ i. cond-false _ cs [] (ne_eqb x 0x5A other) i ++ cond-false _ [] ds (ne_eqb x 0xFF non) i))
-    (cases_eq x 0xFF))
-    (cases_eq x 0x5A)
-  where
-    x : ℕ
-    x = mark xs
-
-    cs : List Change
-    cs = copies l xs 0 l.k
-
-    ds : List Change
-    ds = clears l
+    ⊎_elim (λ is. approved is (grind (arith, nat_tests)))
+    (λ other. ⊎_elim (λ is. blank is (grind (arith, nat_tests))) (λ non. spoiled other non (grind (arith, nat_tests))) (cases_eq (mark xs) 0xFF))
+    (cases_eq (mark xs) 0x5A)
 
 -- a restart stays below the boot area
 pub mends_within : (l : Layout) (xs : List ℕ) → length xs ≡ whole_size l → Within 0 (512 * (1 + 2 * l.k)) (mends l xs)
@@ -68,11 +52,11 @@ module _ {M : Type 0} {make : Make M} (laws : Laws make) (l : Layout) where
   abbrev bytes : M → List ℕ
   bytes m = (mem m).bytes
 
-  -- a (Ok tt) copy of one segment
+  -- a finished copy of one segment
   segment_copied : (xs : List ℕ) (i : ℕ) {m n : M} → 512 * (1 + i) + 512 ≤ length xs → ((j : ℕ) → get_or xs j 255 < 256)
       → Ran make (copy l xs i) m n (Ok tt)
       → (q : ℕ) → q < 512 → at (mem n) (512 * (1 + l.k + i) + q) ≡ get_or xs (512 * (1 + i) + q) 255
-  segment_copied xs i {m} {n} long small (stop f h a) q lt = not_refused refl a
+  segment_copied xs i {m} {n} long small (stop f h a) q lt = absurd cc
   segment_copied xs i {m} {n} long small (more {n = o} h t) q lt =
       let from = 512 * (1 + i) in
       let to = 512 * (1 + l.k + i) in
@@ -83,7 +67,7 @@ module _ {M : Type 0} {make : Make M} (laws : Laws make) (l : Layout) where
       ∙ get_or_default (part from 512 xs) q 0 255 (omega arith)
       ∙ part_at from 512 xs q lt
 
-  -- a (Ok tt) copy of n segments from the i-th up
+  -- a finished copy of n segments from the i-th up
   copied : (xs : List ℕ) (i n : ℕ) {m o : M} → 512 * (1 + i + n) ≤ length xs → ((j : ℕ) → get_or xs j 255 < 256)
       → Ran make (copies l xs i n) m o (Ok tt)
       → (q : ℕ) → q < 512 * n → at (mem o) (512 * (1 + l.k + i) + q) ≡ get_or xs (512 * (1 + i) + q) 255
@@ -101,7 +85,7 @@ module _ {M : Type 0} {make : Make M} (laws : Laws make) (l : Layout) where
           → (j : ℕ) → j < 512 * n → at (mem o) (to + j) ≡ get_or xs (from + j) 255)
           → Split make (copy l xs i) (copies l xs (i + 1) n) m o (Ok tt)
           → at (mem o) (512 * (1 + l.k + i) + q) ≡ get_or xs (512 * (1 + i) + q) 255
-      by again (early f e u) = not_refused refl e
+      by again (early f e u) = absurd cc
       by again (late {o = v} a b) =
           ⊎_elim
           (λ low.
@@ -115,7 +99,7 @@ module _ {M : Type 0} {make : Make M} (laws : Laws make) (l : Layout) where
           ap (λ p. at (mem o) p) (sym e) ∙ again v b (q - 512) (omega arith) ∙ ap (λ p. get_or xs p 255) f)
           (cases_lt q 512)
 
-  -- what a copy of the whole download area leaves, (Ok tt) or cut
+  -- what a copy of the whole download area leaves, finished or cut
   record Copied (m n : M) (r : End) : Type 0 where
     pub mark : mark (bytes n) ≡ mark (bytes m)
     pub image : download l (bytes n) ≡ download l (bytes m)
@@ -163,7 +147,7 @@ module _ {M : Type 0} {make : Make M} (laws : Laws make) (l : Layout) where
   cleared_safe (more f t) = inl (unmarked f t)
 
   cleared_mark : {m n : M} → Ran make (clears l) m n (Ok tt) → mark (bytes n) ≡ 0xFF
-  cleared_mark (stop f h a) = not_refused refl a
+  cleared_mark (stop f h a) = absurd cc
   cleared_mark (more f t) = unmarked f t
 
   -- a restart with the mark erased changes nothing
@@ -182,7 +166,7 @@ module _ {M : Type 0} {make : Make M} (laws : Laws make) (l : Layout) where
       let top = 512 * (1 + 2 * l.k) in
       ran_part laws h 0 top (mends_within l (bytes m) sized) top (512 * l.b) (inr (omega arith))
 
-  -- a (Ok tt) restart leaves the mark erased
+  -- a finished restart leaves the mark erased
   pub mended_mark : {m n : M} → Ran make (mends l (bytes m)) m n (Ok tt) → mark (bytes n) ≡ 0xFF
   mended_mark {m} {n} h = by (marks l (bytes m))
     where
@@ -190,12 +174,12 @@ module _ {M : Type 0} {make : Make M} (laws : Laws make) (l : Layout) where
       by (approved x e) = last (split _ _ (ran_as e h))
         where
           last : Split make (copies l (bytes m) 0 l.k) (clears l) m n (Ok tt) → mark (bytes n) ≡ 0xFF
-          last (early f e u) = not_refused refl e
+          last (early f e u) = absurd cc
           last (late u v) = cleared_mark v
       by (blank x e) = ap (λ v. mark (bytes v)) (nothing_ran (ran_as e h)).0 ∙ x
       by (spoiled x y e) = cleared_mark (ran_as e h)
 
-  -- what is pending stays so at a cut, and is there once a restart has (Ok tt)
+  -- what is pending stays so at a cut, and is there once a restart has finished
   module _ (Q : List ℕ → Type 0) (img : List ℕ) (wanted : Q img) where
     -- the image in place, or what was there
     settled : {m n : M} {r : End} → Q (application l (bytes m)) → download l (bytes m) ≡ img
@@ -214,7 +198,7 @@ module _ {M : Type 0} {make : Make M} (laws : Laws make) (l : Layout) where
             → Pending l Q img (bytes n) × (r ≡ Ok tt → Q (application l (bytes n)))
         copied_on is x (early f a u) =
             let c = all_copied sized u in
-            (inl (c.mark ∙ x, c.image ∙ is), λ e. not_refused e a)
+            (inl (c.mark ∙ x, c.image ∙ is), λ e. absurd cc)
         copied_on is x (late u v) =
             let c = all_copied sized u in
             settled (subst Q (sym (c.done refl ∙ is)) wanted) (c.image ∙ is) v

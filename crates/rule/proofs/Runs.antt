@@ -1,44 +1,36 @@
 -- The rule over runs.
 use Rattle.std.proofs.Common.{◌≡◌, ℕ, Bool, true, ◌⊎◌, List, [], ◌∷◌, length, Ok, sym, refl, ap, ◌∙◌, subst, inl, inr, ⊎_elim, arith}
-use Rattle.std.proofs.lemmas.Bool.{eqb-true, cond_both}
+use Rattle.std.proofs.lemmas.Bool.{eqb-true}
+use Rattle.std.proofs.lemmas.Bool.Decides.{nat_tests}
 use Rattle.memory.specs.Make.{Laws}
 use Rattle.memory.proofs.Effects.{ran_to}
 use Rattle.image.specs.Startable.{startable}
 use Rattle.layout.specs.Areas.{size as whole_size, mark, download, application, boot}
 use Rattle.rule.specs.Bus.{Law}
-use Rattle.rule.specs.Restart.{forced, choice}
+use Rattle.rule.specs.Restart.{choice}
 use Rattle.rule.specs.Calls.{Engine, Machine, layout, bytes, downloaded, applied, booted}
 use Rattle.rule.specs.Rule.{None, Some, Chose, Restarts, Step, Jump, Accepted, Cut, image, Finished}
 use Rattle.rule.specs.Rule.{Commissioned, History, Reached, Update, Lull, FirstFinished, FirstUncut}
 use Rattle.rule.specs.Rule.{Updated, Kept, Safe, Rule}
 use Rattle.words.specs.declared.Call.{Call}
-use Rattle.words.specs.declared.Call.TheVariants.{Tell, Restart}
+use Rattle.words.specs.declared.Call.TheVariants.{Restart}
 use Rattle.words.specs.declared.Inputs.{Inputs}
 use Rattle.words.specs.declared.Success.{Success}
 use Rattle.words.specs.Outcomes.{Outcome}
 use Rattle.words.specs.declared.Phase.{Phase}
 use Rattle.words.specs.declared.Phase.TheVariants.{Listening, Running}
 use Rattle.rule.proofs.Mend.{Pending, mended, mended_mark, blank_mended}
-use Rattle.rule.proofs.Steps.{waiting_not, lost_not_said, lost_not_chosen, Sound, step, jump_step}
+use Rattle.rule.proofs.Steps.{Sound, step, jump_step}
 use Rattle.rule.proofs.Steps.{Jumped, Heard, quiet, filled, jumped, Rebooted, Kind, told, rebooted}
 
 -- a choice is one of a phase
 phase_is : {R : Type 0} {p q : Phase} → ◌≡◌ {A = Outcome R} (Ok (Success.Chose p)) (Ok (Success.Chose q)) → p ≡ q
 phase_is e = cc
 
-event_not_restart : {Event : Type 0} {c : Call Event} {x : Event} → c ≡ Tell x → Restarts c → ⊥
-event_not_restart e r = let z : ◌≡◌ {A = ℕ} 0 1 = cc (e, r.1) in omega arith
-
 -- to choose running is to have found the area startable
 chosen_startable : (accepts : List ℕ → Bool) (i : Inputs) (xs : List ℕ)
     → choice accepts i xs ≡ Running → startable accepts xs ≡ true
-chosen_startable accepts i xs =
-    let P : Phase → Type 0 = λ p. p ≡ Running → startable accepts xs ≡ true in
-    cond_both (forced i) _ _ P (λ _ e. absurd (apart e))
-    (λ _. cond_both (startable accepts xs) _ _ P (λ can e. can) (λ _ e. absurd (apart e)))
-  where
-    apart : Listening ≡ Running → ⊥
-    apart e = absurd cc
+chosen_startable accepts i xs e = grind (arith, nat_tests)
 
 none_false : {X : Type 0} (xs : List X) → None (λ _. ⊥) xs
 none_false [] = tt
@@ -85,7 +77,7 @@ module _ {M : Type 0} {E : Engine M} (law : Law E.bus) (laws : Laws E.make) wher
       by (told x is un h) = absurd (un f)
       by (rebooted r) =
           ⊎_elim (λ a. record { reboot = r; is = a.0; choice = a.1 })
-          (λ b. absurd (lost_not_chosen e.outcome b.2 f)) r.end
+          (λ b. absurd (cc (b.2.2, f.1))) r.end
 
   -- every call leaves a sound controller sound
   sound_step : (e : Step E) → Sound e.before → Sound e.after
@@ -96,12 +88,12 @@ module _ {M : Type 0} {E : Engine M} (law : Law E.bus) (laws : Laws E.make) wher
       hears : e.after.control.phase ≡ Listening → Heard e → mark (bytes e.after) ≡ 0xFF
       hears on (quiet same back) = ap mark same ∙ s.ready (back on)
       hears on (filled was same app) = same ∙ s.ready was
-      hears on (jumped was j d) = absurd (waiting_not (sym d.waits ∙ on))
+      hears on (jumped was j d) = absurd (cc d.waits)
 
       by : e.after.control.phase ≡ Listening → Kind e → mark (bytes e.after) ≡ 0xFF
       by on (told x is un h) = hears on h
       by on (rebooted r) =
-          ⊎_elim (λ a. reboot_mark e r a.0) (λ b. absurd (waiting_not (sym b.1 ∙ on))) r.end
+          ⊎_elim (λ a. reboot_mark e r a.0) (λ b. absurd (cc b.1)) r.end
 
   -- and so does every history, with each boot byte
   sound_run : (m n : Machine E) (es : List (Step E)) → Sound m → History m es n
@@ -156,7 +148,7 @@ module _ {M : Type 0} {E : Engine M} (law : Law E.bus) (laws : Laws E.make) wher
             (λ a. absurd (un ((_, r.call), (_, a.1))))
             (λ b. record {
               sound = sound_step e i.sound;
-              deaf = λ on. waiting_not (sym b.1 ∙ on);
+              deaf = λ on. cc b.1;
               pending = (reboot_pending e i.sound r i.pending).0;
             })
             r.end
@@ -213,7 +205,7 @@ module _ {M : Type 0} {E : Engine M} (law : Law E.bus) (laws : Laws E.make) wher
         (λ gone.
         let held : Held Q (image e) e.after = record {
           sound = next;
-          deaf = λ on. waiting_not (sym d.waits ∙ on);
+          deaf = λ on. cc d.waits;
           pending = inr (inl (d.app ∙ c'.app), inr d.image);
         } in
         let last = held_run Q (image e) (inr refl) e.after n es held nf.1 h.1 in
@@ -259,10 +251,10 @@ module _ {M : Type 0} {E : Engine M} (law : Law E.bus) (laws : Laws E.make) wher
       let s = (reached u.reached).0 in
       let d = jump_step law laws e s u.accepted.0 in
       let marked : mark (bytes e.after) ≡ 0x5A =
-      ⊎_elim (λ ok. ok.1) (λ gone. absurd (lost_not_said e.outcome gone u.accepted.1)) d.end in
+      ⊎_elim (λ ok. ok.1) (λ gone. absurd (cc (gone.2, u.accepted.1.1))) d.end in
       let held : Held Q (image e) e.after = record {
         sound = sound_step e s;
-        deaf = λ on. waiting_not (sym d.waits ∙ on);
+        deaf = λ on. cc d.waits;
         pending = inl (marked, d.image);
       } in
       let last = held_run Q (image e) refl e.after u.restart.before u.between held first.0 u.history in
@@ -294,7 +286,7 @@ module _ {M : Type 0} {E : Engine M} (law : Law E.bus) (laws : Laws E.make) wher
           (sound_run u.jump.after u.restart.before u.between next u.history).0
 
       by : Kind u.restart → Chose u.restart.outcome
-      by (told x is un h) = absurd (event_not_restart is first.1)
+      by (told x is un h) = absurd (cc (is, first.1.1))
       by (rebooted r) = ⊎_elim (λ a. (_, a.1)) (λ b. absurd (first.2 b.2)) r.end
 
 -- The rule, for any two controllers whose buses and memories show their laws.

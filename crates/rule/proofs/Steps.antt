@@ -1,10 +1,10 @@
 -- What one call leaves, in the words of the rule.
 use Rattle.std.proofs.Common.{◌≡◌, ℕ, ◌+◌, ◌*◌, ◌≤◌, Bool, true, ◌⊎◌, List, [], ◌∷◌, length, Ok, sym, refl, ap, ◌∙◌, subst, inl, inr, ⊎_elim, arith, Err}
-use Rattle.std.proofs.lemmas.Bool.{eq-eqb, false≢true}
+use Rattle.std.proofs.lemmas.Bool.{eq-eqb}
 use Rattle.memory.specs.Change.{Change, write, End}
 use Rattle.memory.specs.Make.{Laws}
 use Rattle.memory.specs.Ran.{Ran, stop, more, Within}
-use Rattle.memory.proofs.Effects.{not_refused, changed_left, nothing_ran, ran_as, ran_to, ran_size, ran_apart}
+use Rattle.memory.proofs.Effects.{changed_left, nothing_ran, ran_as, ran_to, ran_size, ran_apart}
 use Rattle.image.specs.Startable.{startable}
 use Rattle.layout.specs.Areas.{size as whole_size, mark, download, application, boot}
 use Rattle.layout.specs.declared.divided.Layout.{Layout}
@@ -22,19 +22,6 @@ use Rattle.words.specs.declared.Phase.TheVariants.{Waiting, Listening}
 use Rattle.words.specs.declared.Refusal.TheVariants.{NotListening}
 use Rattle.rule.proofs.Areas.{ran_part}
 use Rattle.rule.proofs.Mend.{mended_boot}
-
-pub waiting_not : Waiting ≡ Listening → ⊥
-waiting_not e = absurd cc
-
--- a call answers in one way
-pub lost_not_said : {R : Type 0} (o : Outcome R) → Lost o → Said o → ⊥
-lost_not_said o a b = let z : ◌≡◌ {A = ℕ} 0 1 = cc (a.2, b.1) in omega arith
-
-pub lost_not_chosen : {R : Type 0} (o : Outcome R) → Lost o → Chose o → ⊥
-lost_not_chosen o a b = let z : ◌≡◌ {A = ℕ} 0 1 = cc (a.2, b.1) in omega arith
-
-said_not_chosen : {R : Type 0} (o : Outcome R) → Said o → Chose o → ⊥
-said_not_chosen o a b = let z : ◌≡◌ {A = ℕ} 0 1 = cc (a.1, b.1) in omega arith
 
 module _ {M : Type 0} {E : Engine M} where
   -- the sizes agree, and a controller that listens has no mark
@@ -55,7 +42,7 @@ module _ {M : Type 0} {E : Engine M} where
       → Made cs job m n o next says → Ended cs m n o next says
   ended (whole ran is out) = record { result = _; ran = ran; end = inl (refl, is, out) }
   ended {job = job} (cut p ran is out) =
-      record { result = _; ran = ran; end = inr (λ e. not_refused refl (sym e), is, (p, job p, out)) }
+      record { result = _; ran = ran; end = inr (λ e. cc, is, (p, job p, out)) }
 
   -- what a jump leaves that found the download area startable
   pub record Jumped (e : Step E) : Type 0 where
@@ -100,7 +87,7 @@ module _ {M : Type 0} {E : Engine M} (law : Law E.bus) (laws : Laws E.make)
   -- the write of the mark
   approved : {m n : M} → Ran E.make (write 0 0x5A ∷ []) m n (Ok tt)
       → mark (E.make.state m).bytes ≡ 0xFF → mark (E.make.state n).bytes ≡ 0x5A
-  approved {m} (stop f h a) was = not_refused refl a
+  approved {m} (stop f h a) was = absurd cc
   approved {m} (more {n = o} h t) was =
       ap (λ v. mark (E.make.state v).bytes) (nothing_ran t).0
       ∙ changed_left (laws.change _ m o _ h) 0 (omega arith) (omega arith)
@@ -127,9 +114,7 @@ module _ {M : Type 0} {E : Engine M} (law : Law E.bus) (laws : Laws E.make)
           (λ b. ap (λ v. v.layout) b.1) d.end
 
       unchosen : Chose e.outcome → ⊥
-      unchosen y =
-          ⊎_elim (λ a. said_not_chosen e.outcome (_, a.2) y)
-          (λ b. lost_not_chosen e.outcome b.2 y) d.end
+      unchosen y = ⊎_elim (λ a. cc (a.2, y.1)) (λ b. cc (b.2.2, y.1)) d.end
 
       -- where the changes lie below the application area
       module _ (lo hi : ℕ) (w : Within lo hi p.changes) (low : hi ≤ 512 * (1 + l.k)) where
@@ -214,7 +199,7 @@ module _ {M : Type 0} {E : Engine M} (law : Law E.bus) (laws : Laws E.make)
     layouts = ap layout same;
     sizes = ap (λ v. length (bytes v)) same;
     boots = ap booted same;
-    kind = told x is (λ y. let z : ◌≡◌ {A = ℕ} 0 1 = cc (out, y.1) in omega arith) (quiet (ap bytes same) (λ on. sym (ap (λ v. v.control.phase) same) ∙ on));
+    kind = told x is (λ y. cc (out, y.1)) (quiet (ap bytes same) (λ on. sym (ap (λ v. v.control.phase) same) ∙ on));
   }
 
   -- every call
@@ -223,10 +208,10 @@ module _ {M : Type 0} {E : Engine M} (law : Law E.bus) (laws : Laws E.make)
     where
       by : (call : Call E.bus.Event) → e.call ≡ call
           → Called call e.before e.after e.outcome → Went e
-      by call is (mismatch off same out) = absurd (false≢true (sym off ∙ eq-eqb _ _ s.size))
+      by call is (mismatch off same out) = absurd (cc (eq-eqb _ _ s.size))
       by (Tell x) is (unheard fit deaf same out) = still x is same out
       by (Tell x) is (did fit on h) = carried x is on (ended h) (law.otherwise e.before.control _ x on)
-      by (Restart i) is (unheard fit deaf same out) = absurd (false≢true (sym deaf))
+      by (Restart i) is (unheard fit deaf same out) = absurd cc
       by (Restart i) is (did fit on h) = restarted i is h
 
   -- a jump that found the download area startable
@@ -234,8 +219,8 @@ module _ {M : Type 0} {E : Engine M} (law : Law E.bus) (laws : Laws E.make)
   jump_step j = by (subst (λ v. Called v e.before e.after e.outcome) j.call e.called)
     where
       by : Called (Tell j.event) e.before e.after e.outcome → Jumped e
-      by (mismatch off same out) = absurd (false≢true (sym off ∙ eq-eqb _ _ s.size))
-      by (unheard fit deaf same out) = absurd (false≢true (sym deaf ∙ j.heard))
+      by (mismatch off same out) = absurd (cc (eq-eqb _ _ s.size))
+      by (unheard fit deaf same out) = absurd cc
       by (did fit on h) =
           let d = ended h in
           leaped j.event j.call on d (approval j.event j.call on d j.command j.can)

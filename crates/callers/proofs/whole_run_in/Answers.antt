@@ -1,10 +1,10 @@
-use Rattle.std.proofs.Common.{◌≡◌, ℕ, ◌<◌, List, [], ◌∷◌, ◌++◌, length, get_or, replicate, Ok, refl, ap, ◌∙◌, arith, rules}
+use Rattle.std.proofs.Common.{◌≡◌, ℕ, ◌<◌, List, [], ◌∷◌, ◌++◌, length, get_or, replicate, Ok, refl, sym, ap, ◌∙◌, arith, rules}
 use Rattle.memory.specs.Change.{End}
-use Rattle.memory.specs.Ran.{writes, erases}
+use Rattle.memory.specs.Ran.{writes}
 use Rattle.memory.proofs.Effects.{ran_as}
 use Rattle.models.specs.Cells.{Cells, Sound}
 use Rattle.models.specs.declared.simulated.Simulated.{Simulated}
-use Rattle.models.proofs.Outcomes.{fresh_is, ran_from}
+use Rattle.models.proofs.Outcomes.{ran_fresh, ran_from, came}
 use Rattle.callers.proofs.whole_run_in.Goals as goal
 
 -- three bytes, written out
@@ -18,25 +18,16 @@ three (a ∷ b ∷ c ∷ d ∷ xs) e = absurd (omega arith)
 -- an erased byte takes each of them
 taken : (cells : Cells) → Sound cells → (xs : List ℕ) → length xs ≡ 3 → ((i : ℕ) → get_or xs i 0 < 256)
     → cells.mix 0xFF (get_or xs 0 0) ∷ cells.mix 0xFF (get_or xs 1 0) ∷ cells.mix 0xFF (get_or xs 2 0) ∷ [] ≡ xs
-taken cells sound [] e small = absurd (omega arith)
-taken cells sound (a ∷ []) e small = absurd (omega arith)
-taken cells sound (a ∷ b ∷ []) e small = absurd (omega arith)
-taken cells sound (a ∷ b ∷ c ∷ []) e small = rw (sound.erased a (small 0), sound.erased b (small 1), sound.erased c (small 2))
-taken cells sound (a ∷ b ∷ c ∷ d ∷ xs) e small = absurd (omega arith)
+taken cells sound xs e small = rw (sound.erased _ (small 0), sound.erased _ (small 1), sound.erased _ (small 2)) (sym (three xs e))
 
 pub returns : goal.returns
 returns g c =
     let cells = g.C.Cells.rules in
     let written = c.args.written in
     let long : length written ≡ 3 = search rules in
-    let memory = c.new-memory.result in
-    let fresh = fresh_is _ _ memory c.new-memory.ensures in
-    let erased = ran_from cells (erases 0 1) memory _ c.erase_all.new.memory c.erase_all.result fresh c.erase_all.ensures.ran in
-    let ran = ran_from cells (writes 3 (get_or written 0 0 ∷ get_or written 1 0 ∷ get_or written 2 0 ∷ [])) c.erase_all.new.memory _ c.write_all-end.new.memory c.write_all-end.result
-    (ap (λ (p : Simulated g.row.C.Denot × End). p.0) erased) (ran_as (ap (writes 3) (three written long)) c.write_all-end.ensures.ran) in
-    let kept = ap (λ (p : Simulated g.row.C.Denot × End). p.0.bytes.ghost_name) ran in
+    let erased = ran_fresh cells c.new-memory.ensures c.erase_all.ensures.ran in
+    let ran = ran_from cells (ap (λ (p : Simulated g.row.C.Denot × End). p.0) erased) (ran_as (ap (writes 3) (three written long)) c.write_all-end.ensures.ran) in
+    let left = came ran in
     let bytes : c.write_all-end.new.memory.bytes.now ≡ replicate 3 0xFF ++ written ++ replicate 506 0xFF ++ replicate 88 0x05 =
-    ap (λ (p : Simulated g.row.C.Denot × End). p.0.bytes.now) ran
-    ∙ ap (λ xs. replicate 3 0xFF ++ xs ++ replicate 506 0xFF ++ replicate 88 0x05) (taken cells g.met.C.Cells.sound written long (λ i. search rules)) in
-    let end : c.write_all-end.result ≡ Ok tt = ap (λ (p : Simulated g.row.C.Denot × End). p.1) ran in
-    record { bytes = search rules; end = end }
+    left.bytes ∙ ap (λ xs. replicate 3 0xFF ++ xs ++ replicate 506 0xFF ++ replicate 88 0x05) (taken cells g.met.C.Cells.sound written long (λ i. search rules)) in
+    record { bytes = search rules; end = left.end }
