@@ -132,8 +132,8 @@ impl Controller {
             return Err(Refusal::NotListening);
         }
         match self.receiver.byte(byte) {
-            Ok(None) => Ok(None),
-            Ok(Some(n)) => match obey::<M, C>(memory, &self.layout, self.receiver.payload(n)) {
+            Ok(false) => Ok(None),
+            Ok(true) => match obey::<M, C>(memory, &self.layout, self.receiver.payload()) {
                 Ok(response) => {
                     self.phase = response.phase;
                     Ok(Some(response.answer))
