@@ -1,5 +1,5 @@
 // What a receiver does with a byte.
-ghost use Rattle.std.specs.Prelude.{◌≡◌, [], ◌∷◌, ◌++◌};
+ghost use Rattle.std.specs.Prelude.{◌≡◌, ◌≤◌, true, Ok, [], ◌∷◌, ◌++◌, length};
 ghost use Rattle.rule.specs.Frame.{judge};
 ghost use Rattle.receiver.specs.Packet.{packet};
 ghost use Rattle.receiver.specs.Events.{told, kept};
@@ -31,6 +31,7 @@ impl Receiver {
     // The next byte from the host: whether it completes a good frame, or the answer to an error. A payload that is lent out here would hide
     // from a contract what becomes of the receiver, so `payload` lends it.
     pub fn byte(&mut self, byte: u8) -> Result<bool, Answer>
+        ensures count { result ≡ Ok true → length self.new.rest.items ≤ 19 }
         ensures event { told result self.new.rest.items ≡ judge (packet self.old ++ byte ∷ []) }
         ensures keeps { packet self.new ≡ kept (told result self.new.rest.items) (packet self.old ++ byte ∷ []) }
     {
