@@ -1,5 +1,5 @@
 -- A received byte, by what its code does in turn.
-use Rattle.std.proofs.Common.{◌≡◌, ℕ, Bool, true, ◌⊎◌, List, [], ◌∷◌, ◌++◌, Ok, Err, Result, sym, refl, ap, ◌∙◌, subst, ap₂, inl, inr, arith, Some, None, Option, take}
+use Rattle.std.proofs.Common.{◌≡◌, ℕ, Bool, true, false, ◌⊎◌, List, [], ◌∷◌, ◌++◌, Ok, Err, Result, sym, refl, ap, ◌∙◌, subst, ap₂, inl, inr, arith, Some, None}
 use Rattle.std.proofs.lemmas.Bool.{eq-eqb}
 use Rattle.memory.specs.State.{size}
 use Rattle.memory.specs.Change.{Change}
@@ -78,15 +78,15 @@ module _ {M : Type 0} {make : Make M} (laws : Laws make) (accepts : List ℕ →
       (subst (λ (q : Plan (List ℕ) Reply). Made {E = framed accepts make} q.changes (λ _. HostCommand) (with p f m) n o q.next (Ok (Said q.says))) e made)
 
   -- the receiver has taken the byte, with this result
-  module _ (r : Result (Option ℕ) Answer) (buffer g : List ℕ) (event : told r buffer ≡ judge (f ++ byte ∷ [])) (keeps : g ≡ kept (told r buffer) (f ++ byte ∷ [])) where
-    verdict : {o : Result (Option ℕ) Answer} → r ≡ o → told o buffer ≡ judge (f ++ byte ∷ [])
-    verdict is = sym (ap (λ x. told x buffer) is) ∙ event
+  module _ (r : Result Bool Answer) (rest g : List ℕ) (event : told r rest ≡ judge (f ++ byte ∷ [])) (keeps : g ≡ kept (told r rest) (f ++ byte ∷ [])) where
+    verdict : {o : Result Bool Answer} → r ≡ o → told o rest ≡ judge (f ++ byte ∷ [])
+    verdict is = sym (ap (λ x. told x rest) is) ∙ event
 
-    left : {o : Result (Option ℕ) Answer} → r ≡ o → g ≡ kept (told o buffer) (f ++ byte ∷ [])
-    left is = keeps ∙ ap (λ x. kept (told x buffer) (f ++ byte ∷ [])) is
+    left : {o : Result Bool Answer} → r ≡ o → g ≡ kept (told o rest) (f ++ byte ∷ [])
+    left is = keeps ∙ ap (λ x. kept (told x rest) (f ++ byte ∷ [])) is
 
     -- nothing yet
-    pub goes_on : r ≡ Ok None → Called (Tell byte) (with p f m) (with p g m) (Ok (Said None))
+    pub goes_on : r ≡ Ok false → Called (Tell byte) (with p f m) (with p g m) (Ok (Said None))
     goes_on is = by_plan (plan_is (verdict is)) (whole (none refl refl) (ap (λ x. record { layout = l; phase = p; packet = x }) (left is)) refl)
 
     -- an error is answered
@@ -94,7 +94,7 @@ module _ {M : Type 0} {make : Make M} (laws : Laws make) (accepts : List ℕ →
     is_wrong a is = by_plan (plan_is (verdict is)) (whole (none refl refl) (ap₂ (λ q x. record { layout = l; phase = q; packet = x }) on (left is)) refl)
 
     -- a command was carried out
-    module _ (n : ℕ) (is : r ≡ Ok (Some n)) (payload : List ℕ) (part : payload ≡ take n buffer) (after : M) (obeyed : Result Response Refusal)
+    module _ (is : r ≡ Ok true) (payload : List ℕ) (part : payload ≡ rest) (after : M) (obeyed : Result Response Refusal)
         (ensures : Obeyed make (obey l (ready accepts l (make.state m)) payload) m after obeyed) where
       abbrev asked : Effect
       asked = obey l can payload

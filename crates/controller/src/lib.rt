@@ -131,13 +131,13 @@ impl Controller {
             return Err(Refusal::NotListening);
         }
         // While a frame goes on nothing is said, and an error is answered. A good frame's command is obeyed.
-        let n = match self.receiver.byte(byte) {
-            Ok(None) => return Ok(None),
-            Ok(Some(n)) => n,
+        match self.receiver.byte(byte) {
+            Ok(true) => {}
+            Ok(false) => return Ok(None),
             Err(answer) => return Ok(Some(answer)),
-        };
+        }
         self.phase = Phase::Waiting;
-        let response = obey::<M, C>(memory, &self.layout, self.receiver.payload(n))?;
+        let response = obey::<M, C>(memory, &self.layout, self.receiver.payload())?;
         self.phase = response.phase;
         Ok(Some(response.answer))
     }

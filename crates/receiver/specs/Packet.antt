@@ -5,4 +5,4 @@ use Rattle.receiver.specs.declared.Receiver.{Receiver}
 
 -- the bytes since the last answer, in the order in which they came
 abbrev pub packet : Receiver → List ℕ
-packet r = sofar r.state r.buffer
+packet r = sofar r.state r.rest.items

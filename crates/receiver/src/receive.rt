@@ -1,10 +1,11 @@
 // What a receiver does with a byte.
-ghost use Rattle.std.specs.Prelude.{◌≡◌, [], ◌∷◌, ◌++◌, take, replicate};
+ghost use Rattle.std.specs.Prelude.{◌≡◌, ◌≤◌, true, Ok, [], ◌∷◌, ◌++◌, length};
 ghost use Rattle.rule.specs.Frame.{judge};
 ghost use Rattle.receiver.specs.Packet.{packet};
-ghost use Rattle.receiver.specs.Events.{Counted, told, kept};
+ghost use Rattle.receiver.specs.Events.{told, kept};
 
 use crate::{Receiver, Receiving};
+use arrayvec::ArrayVec;
 use crc::CrcCcitt;
 use words::Answer;
 
@@ -12,32 +13,32 @@ impl Receiver {
     // A header is expected.
     pub fn new() -> Receiver
         ensures expects { packet result ≡ [] }
-        ensures clear { result.buffer ≡ replicate 19 0 }
+        ensures clear { result.rest.items ≡ [] }
     {
         Receiver {
             state: Receiving::Header,
-            buffer: [0; 19],
+            rest: ArrayVec::new(),
         }
     }
 
-    // The payload of a good frame of n bytes, until the next byte comes.
-    pub fn payload(&self, n: u8) -> &[u8]
-        ensures { result.now ≡ take n self.now.buffer }
+    // The payload of a good frame, until the next byte comes.
+    pub fn payload(&self) -> &[u8]
+        ensures { result.now ≡ self.now.rest.items }
     {
-        &self.buffer[..usize::from(n).min(19)]
+        self.rest.as_slice()
     }
 
-    // The next byte from the host: the length of its payload where it completes a good frame, or the answer to an error. A payload that
-    // is lent out here would hide from a contract what becomes of the receiver, so `payload` lends it.
-    pub fn byte(&mut self, byte: u8) -> Result<Option<u8>, Answer>
-        ensures count { Counted result }
-        ensures event { told result self.new.buffer ≡ judge (packet self.old ++ byte ∷ []) }
-        ensures keeps { packet self.new ≡ kept (told result self.new.buffer) (packet self.old ++ byte ∷ []) }
+    // The next byte from the host: whether it completes a good frame, or the answer to an error. A payload that is lent out here would hide
+    // from a contract what becomes of the receiver, so `payload` lends it.
+    pub fn byte(&mut self, byte: u8) -> Result<bool, Answer>
+        ensures count { result ≡ Ok true → length self.new.rest.items ≤ 19 }
+        ensures event { told result self.new.rest.items ≡ judge (packet self.old ++ byte ∷ []) }
+        ensures keeps { packet self.new ≡ kept (told result self.new.rest.items) (packet self.old ++ byte ∷ []) }
     {
         match (self.state, byte) {
             (Receiving::Header, 0x80) => {
                 self.state = Receiving::Length;
-                Ok(None)
+                Ok(false)
             }
             (Receiving::Header, _) => Err(Answer::HeaderError),
             (Receiving::Length, 0) => {
@@ -45,31 +46,26 @@ impl Receiver {
                 Err(Answer::PacketZeroError)
             }
             (Receiving::Length, 1..=19) => {
-                self.state = Receiving::Payload { need: byte, got: 0 };
-                Ok(None)
+                self.rest.clear();
+                self.state = Receiving::Rest { need: byte };
+                Ok(false)
             }
             (Receiving::Length, _) => {
                 self.state = Receiving::Header;
                 Err(Answer::PacketSizeError)
             }
-            (Receiving::Payload { need, got }, _) => {
-                self.buffer[usize::from(got)] = byte;
-                self.state = if got + 1 < need {
-                    Receiving::Payload { need, got: got + 1 }
-                } else {
-                    Receiving::SumLow { need }
-                };
-                Ok(None)
-            }
-            (Receiving::SumLow { need }, low) => {
-                self.state = Receiving::SumHigh { need, low };
-                Ok(None)
-            }
-            (Receiving::SumHigh { need, low }, high) => {
-                let sum = crc::sum::<CrcCcitt>(&self.buffer[..usize::from(need)]);
+            (Receiving::Rest { need }, _) => {
+                let need = usize::from(need);
+                self.rest.push(byte);
+                if self.rest.len() < need + 2 {
+                    return Ok(false);
+                }
+                let (payload, sum) = self.rest.split_at(need);
+                let good = u16::from_le_bytes([sum[0], sum[1]]) == crc::sum::<CrcCcitt>(payload);
+                self.rest.truncate(need);
                 self.state = Receiving::Header;
-                if u16::from_le_bytes([low, high]) == sum {
-                    Ok(Some(need))
+                if good {
+                    Ok(true)
                 } else {
                     Err(Answer::ChecksumError)
                 }

@@ -5,26 +5,26 @@ use Rattle.receiver.specs.Packet.{packet}
 use Rattle.controller.proofs.Receives.{goes_on, is_wrong, replies, is_lost}
 use Rattle.controller.proofs.Controller.receive.Goals as goal
 
-pub returns-in-Ok-None : goal.returns-in-Ok-None
-returns-in-Ok-None g c =
+pub returns-in-Ok-false : goal.returns-in-Ok-false
+returns-in-Ok-false g c =
     goes_on g.met.M.Memory.laws (accepted g.C.ImageCheck.check) c.args.self.now c.args.byte c.args.memory.now (search rules) (search rules)
-    c.byte.result c.byte.new.self.buffer (packet c.byte.new.self) c.byte.ensures.event c.byte.ensures.keeps (c.in-Ok-None.is ∙ ap Ok c.in-Ok-None.field-0-is)
+    c.byte.result c.byte.new.self.rest.items (packet c.byte.new.self) c.byte.ensures.event c.byte.ensures.keeps (c.in-Ok-false.is ∙ ap Ok c.in-Ok-false.field-0-test)
 
 pub returns-in-Err : goal.returns-in-Err
 returns-in-Err g c =
     is_wrong g.met.M.Memory.laws (accepted g.C.ImageCheck.check) c.args.self.now c.args.byte c.args.memory.now (search rules) (search rules)
-    c.byte.result c.byte.new.self.buffer (packet c.byte.new.self) c.byte.ensures.event c.byte.ensures.keeps c.in-Err.answer c.in-Err.is
+    c.byte.result c.byte.new.self.rest.items (packet c.byte.new.self) c.byte.ensures.event c.byte.ensures.keeps c.in-Err.answer c.in-Err.is
 
 pub returns-in_err-response : goal.returns-in_err-response
 returns-in_err-response g c =
     let p = err_from_is_err_and c.from_residual.result c.from_residual.ensures.1 in
     rw (p.1, p.2)
     (is_lost g.met.M.Memory.laws (accepted g.C.ImageCheck.check) c.args.self.now c.args.byte c.args.memory.now (search rules) (search rules)
-    c.byte.result c.byte.new.self.buffer (packet c.byte.new.self) c.byte.ensures.event c.byte.ensures.keeps c.in-Ok-Some.n (c.in-Ok-Some.is ∙ ap Ok c.in-Ok-Some.field-0-is)
+    c.byte.result c.byte.new.self.rest.items (packet c.byte.new.self) c.byte.ensures.event c.byte.ensures.keeps (c.in-Ok-true.is ∙ ap Ok c.in-Ok-true.field-0-test)
     c.payload.result.now c.payload.ensures c.obey.new.memory c.obey.result c.obey.ensures _ c.in_err-response.was)
 
 pub returns : goal.returns
 returns g c =
     replies g.met.M.Memory.laws (accepted g.C.ImageCheck.check) c.args.self.now c.args.byte c.args.memory.now (search rules) (search rules)
-    c.byte.result c.byte.new.self.buffer (packet c.byte.new.self) c.byte.ensures.event c.byte.ensures.keeps c.in-Ok-Some.n (c.in-Ok-Some.is ∙ ap Ok c.in-Ok-Some.field-0-is)
+    c.byte.result c.byte.new.self.rest.items (packet c.byte.new.self) c.byte.ensures.event c.byte.ensures.keeps (c.in-Ok-true.is ∙ ap Ok c.in-Ok-true.field-0-test)
     c.payload.result.now c.payload.ensures c.obey.new.memory c.obey.result c.obey.ensures _ c.in_ok-response.was
