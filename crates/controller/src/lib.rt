@@ -19,7 +19,7 @@ use commands::obey;
 use image::ImageCheck;
 use layout::{Layout, mark};
 use memory::Memory;
-use mending::mend;
+use mending::{check_size, mend};
 use receiver::Receiver;
 use words::{Call, Inputs, Outcome, Phase, Refusal, Reply, Success, Turn};
 
@@ -83,9 +83,7 @@ impl Controller {
         ensures answer { result ≡ tested layout (M.Memory.make.state memory.now) }
         ensures taken { TakenOn layout self.old self.new result }
     {
-        if memory.size() != layout.size() {
-            return Err(Refusal::WrongSize);
-        }
+        check_size(memory, &layout)?;
         if memory.read(0) != mark::ERASED {
             return Err(Refusal::MarkNotErased);
         }
@@ -104,9 +102,7 @@ impl Controller {
         ensures called { CalledOn (accepted C.ImageCheck.check) M.Memory.make (Restart inputs) self.old memory.old self.new memory.new (chose result) }
         ensures supply { SupplyTold result (M.Memory.make.state memory.new) }
     {
-        if memory.size() != self.layout.size() {
-            return Err(Refusal::WrongSize);
-        }
+        check_size(memory, &self.layout)?;
         memory.restore();
         self.phase = Phase::Waiting;
         self.receiver = Receiver::new();
@@ -124,9 +120,7 @@ impl Controller {
     ) -> Result<Reply, Refusal>
         ensures { CalledOn (accepted C.ImageCheck.check) M.Memory.make (Tell byte) self.old memory.old self.new memory.new (said result) }
     {
-        if memory.size() != self.layout.size() {
-            return Err(Refusal::WrongSize);
-        }
+        check_size(memory, &self.layout)?;
         if self.phase != Phase::Listening {
             return Err(Refusal::NotListening);
         }

@@ -17,7 +17,7 @@ returns-in-Err g c =
 
 pub returns-in_err-response : goal.returns-in_err-response
 returns-in_err-response g c =
-    let p = err_from_is_err_and c.from_residual.result c.from_residual.ensures.1 in
+    let p = err_from_is_err_and c.from_residual-in_err-response.result c.from_residual-in_err-response.ensures.1 in
     rw (p.1, p.2)
     (is_lost g.met.M.Memory.laws (accepted g.C.ImageCheck.check) c.args.self.now c.args.byte c.args.memory.now (search rules) (search rules)
     c.byte.result c.byte.new.self.rest.items (packet c.byte.new.self) c.byte.ensures.event c.byte.ensures.keeps (c.in-Ok-true.is ∙ ap Ok c.in-Ok-true.field-0-test)
