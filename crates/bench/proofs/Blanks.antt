@@ -1,5 +1,5 @@
 -- A blank memory of a layout's size is commissioned.
-use Rattle.std.proofs.Common.{◌≡◌, ℕ, ◌%◌, ◌≤◌, eqb, List, length, get_or, take, replicate, Ok, Err, Result, sym, ap, ◌∙◌, arith}
+use Rattle.std.proofs.Common.{◌≡◌, ℕ, ◌%◌, ◌≤◌, List, length, get_or, take, replicate, Ok, Err, Result, ap, ◌∙◌, arith}
 use Rattle.std.proofs.lemmas.List.{length-replicate, length-take, get_or-replicate, get_or-map, get_or-take, take-replicate}
 use Rattle.std.proofs.lemmas.Bool.Decides.{nat_tests}
 use Rattle.image.specs.Check.{accepted}
@@ -14,7 +14,6 @@ use Rattle.models.specs.declared.simulated.Simulated.{Simulated}
 use Rattle.controller.specs.Machines.{tested}
 use Rattle.controller.specs.Playing.{Run}
 use Rattle.controller.specs.declared.Controller.{Controller}
-use Rattle.controller.proofs.Ends.{ok_not_err}
 use Rattle.words.specs.declared.Refusal.{Refusal}
 use Rattle.words.specs.declared.Turn.{Turn}
 use Rattle.words.specs.Outcomes.{Reply}

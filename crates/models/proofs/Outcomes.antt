@@ -28,7 +28,7 @@ pub ran_fresh : {C : Type 0} (cells : Cells) {bytes : MutBor (List ℕ)} {cuts :
 ran_fresh cells {m = m} f =
     ran_from cells (λ i. record { bytes = f.over i; cuts = f.with i; finished = f.finished i; on = f.on i; cells = m.cells })
 
--- what is left of a new memory's bytes, and how a list of changes of it ended
+-- what a list of changes left of a memory's bytes, and how it ended
 pub record Came {C : Type 0} (n : Simulated C) (r : End) (p : Simulated C × End) : Type 0 where
   pub kept : n.bytes.ghost_name ≡ p.0.bytes.ghost_name
   pub bytes : n.bytes.now ≡ p.0.bytes.now
