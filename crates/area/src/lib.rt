@@ -10,9 +10,6 @@ ghost use Rattle.area.specs.Reads.{reads, OneArea};
 use image::ImageCheck;
 use memory::Memory;
 
-// An erased entry.
-const ERASED: u16 = 0xFFFF;
-
 // Whether so many bytes of a memory from a place up may be started: their entry is not erased, and the check accepts them. A place
 // past the end reads 0xFF.
 // Beside image::startable, over a slice: one function over any source takes an iterator or a closure, and has to ask that it ends and may be called.
@@ -27,7 +24,7 @@ pub fn startable_at<M: Memory, C: ImageCheck>(memory: &M, place: usize, length: 
     }
     let low = byte(length - 2);
     let high = byte(length - 1);
-    if u16::from_le_bytes([low, high]) == ERASED {
+    if u16::from_le_bytes([low, high]) == image::ERASED {
         return false;
     }
     let state = (0..length)
