@@ -63,7 +63,11 @@ pub fn append(bytes: &mut Vec<u8>, number: usize, outcome: Outcome<Reply>) -> Re
 }
 
 // The lines of a script that was played: one for each turn, up to the first that was not played, and one for the refusal of its ending.
-pub fn lines(alloc: Global, turns: &[Turn<u8, Reply>], ending: Result<(), Refusal>) -> Result<Vec<u8>, AllocError>
+pub fn lines(
+    alloc: Global,
+    turns: &[Turn<u8, Reply>],
+    ending: Result<(), Refusal>,
+) -> Result<Vec<u8>, AllocError>
     ensures { IfOk result (λ v. v.items ≡ lines_from 1 turns.now ending) }
 {
     let mut bytes = Vec::new(alloc);

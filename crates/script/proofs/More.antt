@@ -6,7 +6,6 @@ use Rattle.std.proofs.lemmas.List.{drop-take, get_or-take, get_or_default, take-
 use Rattle.std.specs.List.{slice_get}
 use Rattle.std.specs.Option.{IsSomeAnd, MatchOption}
 use Rattle.std.specs.Simd.{first_chunks}
-use Rattle.models.specs.declared.simulated.Cut.{Cut}
 use Rattle.words.specs.declared.Call.{Call}
 use Rattle.words.specs.declared.Refusal.{Refusal}
 use Rattle.words.specs.declared.Refusal.TheVariants.{MalformedInput}
