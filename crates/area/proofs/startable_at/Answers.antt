@@ -22,4 +22,4 @@ returns g c =
     (YieldsList-from_map _ (λ (i : ℕ). at s (c.args.place + i)) (YieldsList-from_range 0 c.args.length c.args.length c.map.ensures.source (omega arith)) c.map.ensures.closure (λ x r q k. search rules))
     (λ y x b q k. search rules) in
     c.accepts.ensures ∙ ap check.accepts (folded ∙ ap (λ a. fold check.step a area) c.start.ensures)
-    ∙ some_entry s c.args.place c.args.length (accepted check) c.if-length-lt2.false _ _ c.byte-low.ensures c.byte-high.ensures (λ e. omega (arith))
+    ∙ some_entry s c.args.place c.args.length (accepted check) c.if-length-lt2.false _ _ c.byte-low.ensures c.byte-high.ensures (λ e. omega arith)
