@@ -1,4 +1,4 @@
-// Whether an area of a memory may be started, told without a copy of the area.
+//! Whether an area of a memory may be started, told without a copy of the area.
 #![tactic(auto)]
 
 ghost use Rattle.std.specs.Prelude.{◌≡◌, ◌+◌};
@@ -10,9 +10,9 @@ ghost use Rattle.area.specs.Reads.{reads, OneArea};
 use image::ImageCheck;
 use memory::Memory;
 
-// Whether so many bytes of a memory from a place up may be started: their entry is not erased, and the check accepts them. A place
-// past the end reads 0xFF.
-// Beside image::startable, over a slice: one function over any source takes an iterator or a closure, and has to ask that it ends and may be called.
+/// Whether so many bytes of a memory from a place up may be started: their entry is not erased, and the check accepts them. A place
+/// past the end reads 0xFF.
+/// Beside image::startable, over a slice: one function over any source takes an iterator or a closure, and has to ask that it ends and may be called.
 pub fn startable_at<M: Memory, C: ImageCheck>(memory: &M, place: usize, length: usize) -> bool
     ensures { result ≡ startable (accepted C.ImageCheck.check) (reads (M.Memory.make.state memory.now) place length) }
 {
@@ -33,7 +33,7 @@ pub fn startable_at<M: Memory, C: ImageCheck>(memory: &M, place: usize, length: 
     C::accepts(state)
 }
 
-// What a memory reads as from a place up is one list, the one that the contracts name.
+/// What a memory reads as from a place up is one list, the one that the contracts name.
 pub fn one_area_is_read()
     ensures { OneArea }
 {}

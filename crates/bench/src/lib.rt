@@ -1,4 +1,4 @@
-// A bench: an input is read, its calls are played on a controller over a simulated memory, and each is told in a line.
+//! A bench: an input is read, its calls are played on a controller over a simulated memory, and each is told in a line.
 #![tactic(auto)]
 
 ghost use Rattle.std.specs.Prelude.{◌≡◌, IfOk};
@@ -17,7 +17,7 @@ use words::{Reply, Turn};
 // The bytes of the largest layout: 105 segments of 512 bytes each.
 const LARGEST: usize = 53760;
 
-// Commissions a controller over an erased memory with these cuts, plays the turns on it, and fills in how they came out.
+/// Commissions a controller over an erased memory with these cuts, plays the turns on it, and fills in how they came out.
 pub fn play<C: Cells>(layout: Layout, cuts: &[Cut], turns: &mut [Turn<u8, Reply>])
     ensures { Benched C.Cells.rules C layout cuts.now turns.old turns.new }
 {
@@ -40,7 +40,7 @@ fn play_script(script: &mut Script)
     }
 }
 
-// What is written for an input: a line for each call as it came out, and one for an input that is refused or ends malformed.
+/// What is written for an input: a line for each call as it came out, and one for an input that is refused or ends malformed.
 pub fn tell(alloc: Global, input: &[u8]) -> Result<Vec<u8>, AllocError>
     ensures { IfOk result (λ v. Told (the_script input.now) v.items) }
 {

@@ -1,5 +1,5 @@
-// What a caller knows of its own arrays once simulated memories over them are gone: every byte, those beyond the last whole segment
-// too, and how the changes ended; also through generic code. Each call does the same to a flash and to a FRAM.
+//! What a caller knows of its own arrays once simulated memories over them are gone: every byte, those beyond the last whole segment
+//! too, and how the changes ended; also through generic code. Each call does the same to a flash and to a FRAM.
 #![tactic(auto)]
 
 ghost use Rattle.std.specs.Prelude.{◌≡◌, ◌++◌, replicate, Ok, Err, slice_set};
@@ -8,7 +8,7 @@ ghost use Rattle.memory.specs.declared.Fault.TheVariants.{SupplyLost};
 use memory::{Fault, erase_all, write_all};
 use models::{Cells, Cut, FlashCells, FramCells, Simulated};
 
-// A caller's bytes after the changes, and how the last list of them ended.
+/// A caller's bytes after the changes, and how the last list of them ended.
 #[derive(Clone, Copy, Debug, PartialEq, Eq)]
 pub struct Left {
     pub bytes: [u8; 600],
@@ -36,7 +36,7 @@ fn torn_write_in<C: Cells>() -> Left
     Left { bytes, end }
 }
 
-// The torn write in both technologies.
+/// The torn write in both technologies.
 pub fn torn_write() -> Both
     ensures flash_bytes { result.flash.bytes ≡ slice_set (replicate 600 0xFF) 3 0x17 }
     ensures flash_end { result.flash.end ≡ Err (SupplyLost 3) }
@@ -64,7 +64,7 @@ fn torn_erase_in<C: Cells>() -> Left
     Left { bytes, end }
 }
 
-// The torn erase in both technologies.
+/// The torn erase in both technologies.
 pub fn torn_erase() -> Both
     ensures flash_bytes { result.flash.bytes ≡ replicate 512 0x17 ++ replicate 88 0x05 }
     ensures flash_end { result.flash.end ≡ Err (SupplyLost 0) }
@@ -92,7 +92,7 @@ fn whole_run_in<C: Cells>(written: [u8; 3]) -> Left
     Left { bytes, end }
 }
 
-// The whole run in both technologies, with other bytes in each.
+/// The whole run in both technologies, with other bytes in each.
 pub fn whole_run() -> Both
     ensures flash_bytes { result.flash.bytes ≡ slice_set (slice_set (slice_set (replicate 512 0xFF) 3 1) 4 2) 5 3 ++ replicate 88 0x05 }
     ensures flash_end { result.flash.end ≡ Ok tt }

@@ -1,4 +1,4 @@
-// The commands of the host, and what each does to the memory.
+//! The commands of the host, and what each does to the memory.
 #![tactic(auto)]
 
 ghost use Rattle.std.specs.Prelude.{◌≡◌, ◌+◌, ◌<◌, Bool, MatchOption};
@@ -19,7 +19,7 @@ use memory::{Fault, Memory, erase_all, write_all};
 use rule::Work;
 use words::{Answer, Job, Phase, Refusal};
 
-// What a good frame's payload asks for. A block's data are a part of the payload.
+/// What a good frame's payload asks for. A block's data are a part of the payload.
 #[derive(Clone, Copy, Debug, PartialEq, Eq)]
 pub enum Command<'p> {
     EraseSegment { address: u16 },
@@ -29,7 +29,7 @@ pub enum Command<'p> {
     Jump,
 }
 
-// What is sent back, and what the controller does then.
+/// What is sent back, and what the controller does then.
 #[derive(Clone, Copy, Debug, PartialEq, Eq)]
 pub struct Response {
     pub answer: Answer,
@@ -48,8 +48,8 @@ impl From<Answer> for Response {
     }
 }
 
-// The command that a payload is, or the answer to one that is none.
-// A payload may say more than its command needs, so this reads and does not convert.
+/// The command that a payload is, or the answer to one that is none.
+/// A payload may say more than its command needs, so this reads and does not convert.
 pub fn parse(payload: &[u8]) -> Result<Command<'_>, Answer>
     ensures { (l : Areas) (can : Bool) → effect_of l can result ≡ the_effect l can payload.now }
 {
@@ -175,7 +175,7 @@ impl Work for HostWork {
     }
 }
 
-// Does what a good frame's payload asks for.
+/// Does what a good frame's payload asks for.
 pub fn obey<M: Memory, C: ImageCheck>(
     memory: &mut M,
     layout: &Layout,

@@ -1,4 +1,4 @@
-// A controller with two images: commissioning, receiving and restarting, over any memory and any image check.
+//! A controller with two images: commissioning, receiving and restarting, over any memory and any image check.
 #![tactic(auto)]
 
 ghost use Rattle.std.specs.Prelude.{◌≡◌, ℕ, List};
@@ -58,7 +58,7 @@ fn choose<M: Memory, C: ImageCheck>(memory: &M, layout: &Layout, inputs: Inputs)
 }
 
 impl Controller {
-    // With one segment of each, waiting.
+    /// With one segment of each, waiting.
     pub fn new() -> Controller
         ensures k { result.layout.k ≡ 1 }
         ensures b { result.layout.b ≡ 1 }
@@ -71,14 +71,14 @@ impl Controller {
         }
     }
 
-    // What it is doing.
+    /// What it is doing.
     pub fn phase(&self) -> Phase
         ensures { result ≡ self.now.phase }
     {
         self.phase
     }
 
-    // Takes on a layout: the memory has to have its size, and its mark has to be erased.
+    /// Takes on a layout: the memory has to have its size, and its mark has to be erased.
     pub fn commission<M: Memory>(&mut self, memory: &M, layout: Layout) -> Result<(), Refusal>
         ensures answer { result ≡ tested layout (M.Memory.make.state memory.now) }
         ensures taken { TakenOn layout self.old self.new result }
@@ -93,7 +93,7 @@ impl Controller {
         Ok(())
     }
 
-    // The supply is back: an approved image is brought into place, and the controller listens or runs.
+    /// The supply is back: an approved image is brought into place, and the controller listens or runs.
     pub fn restart<M: Memory, C: ImageCheck>(
         &mut self,
         memory: &mut M,
@@ -112,7 +112,7 @@ impl Controller {
         Ok(phase)
     }
 
-    // A byte from the host.
+    /// A byte from the host.
     pub fn receive<M: Memory, C: ImageCheck>(
         &mut self,
         memory: &mut M,
@@ -136,7 +136,7 @@ impl Controller {
         Ok(Some(response.answer))
     }
 
-    // Either of the two calls.
+    /// Either of the two calls.
     pub fn call<M: Memory, C: ImageCheck>(
         &mut self,
         memory: &mut M,
@@ -151,7 +151,7 @@ impl Controller {
     }
 }
 
-// Makes the calls of the turns one after the other, and fills in how they came out.
+/// Makes the calls of the turns one after the other, and fills in how they came out.
 pub fn play<M: Memory, C: ImageCheck>(
     controller: &mut Controller,
     memory: &mut M,
@@ -164,8 +164,8 @@ pub fn play<M: Memory, C: ImageCheck>(
     }
 }
 
-// Commissions a new controller and plays the turns on it. Memory, layout and turns come side by side, here and in `rehearse`: memory is
-// passed beside the controller's record.
+/// Commissions a new controller and plays the turns on it. Memory, layout and turns come side by side, here and in `rehearse`: memory is
+/// passed beside the controller's record.
 pub fn run<M: Memory, C: ImageCheck>(
     memory: &mut M,
     layout: Layout,
@@ -179,8 +179,8 @@ pub fn run<M: Memory, C: ImageCheck>(
     Ok(controller)
 }
 
-// Plays two lists of turns on two new controllers, each over its own make of memory. Both runs are histories, and the rule on cuts holds
-// of every two such histories.
+/// Plays two lists of turns on two new controllers, each over its own make of memory. Both runs are histories, and the rule on cuts holds
+/// of every two such histories.
 pub fn rehearse<A: Memory, B: Memory, C: ImageCheck>(
     first: &mut A,
     first_layout: Layout,

@@ -1,4 +1,4 @@
-// CRC-CCITT: a register of 16 bits, polynomial 0x1021, start 0xFFFF, a byte at a time by a table.
+//! CRC-CCITT: a register of 16 bits, polynomial 0x1021, start 0xFFFF, a byte at a time by a table.
 ghost use Rattle.crc.specs.Register.{fed};
 
 use crate::Checksum;

@@ -1,4 +1,4 @@
-// CRC-8: a register of 8 bits, polynomial 0x07, start 0, a byte at a time by a table.
+//! CRC-8: a register of 8 bits, polynomial 0x07, start 0, a byte at a time by a table.
 ghost use Rattle.crc.specs.Register.{fed};
 
 use crate::Checksum;

@@ -1,4 +1,4 @@
-// Checksums by a shift register: CRC-CCITT and CRC-8, each by a table whose rule is the register's.
+//! Checksums by a shift register: CRC-CCITT and CRC-8, each by a table whose rule is the register's.
 #![tactic(auto)]
 
 ghost use Rattle.std.specs.Prelude.{◌≡◌, ℕ, fold};
@@ -10,11 +10,11 @@ mod crc8;
 pub use ccitt::CrcCcitt;
 pub use crc8::Crc8;
 
-// A checksum is known by where its register starts and by what a byte does to it.
+/// A checksum is known by where its register starts and by what a byte does to it.
 pub trait Checksum {
     type Register;
 
-    // What stands in the register before the first byte.
+    /// What stands in the register before the first byte.
     const START: Self::Register;
 
     ghost START: { Self.Register };
@@ -25,7 +25,7 @@ pub trait Checksum {
         ensures { result ≡ steps register byte };
 }
 
-// The sum of all bytes, in their order.
+/// The sum of all bytes, in their order.
 pub fn sum<S: Checksum>(bytes: &[u8]) -> S::Register
     ensures { result ≡ fold S.Checksum.steps S.Checksum.START bytes.now }
 {
@@ -36,7 +36,7 @@ pub fn sum<S: Checksum>(bytes: &[u8]) -> S::Register
         .fold(S::START, |register, byte| S::step(register, byte))
 }
 
-// The register's laws, at every width: linear over XOR, and what becomes of its low part.
+/// The register's laws, at every width: linear over XOR, and what becomes of its low part.
 pub fn register_is_linear()
     ensures { Linear }
 {}

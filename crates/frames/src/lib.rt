@@ -1,4 +1,4 @@
-// MSPBoot's frames as the bus of a host.
+//! MSPBoot's frames as the bus of a host.
 #![tactic(auto)]
 
 ghost use Rattle.rule.specs.Frames.{frames};
@@ -6,7 +6,7 @@ ghost use Rattle.rule.proofs.FramesLaw.{frames_law};
 
 use rule::HostBus;
 
-// MSPBoot's frames, a byte at a time.
+/// MSPBoot's frames, a byte at a time.
 #[derive(Clone, Copy, Debug)]
 pub struct Frames;
 

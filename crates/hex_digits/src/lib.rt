@@ -1,4 +1,4 @@
-// Numbers in upper-case hexadecimal digits.
+//! Numbers in upper-case hexadecimal digits.
 #![tactic(auto)]
 
 ghost use Rattle.std.specs.Prelude.{◌≡◌, ℕ, ◌+◌, ◌/◌, ◌%◌, ◌<◌, Some};
@@ -6,7 +6,7 @@ ghost use Rattle.hex_digits.specs.Digits.{digit as the_digit, byte_digits, word_
 
 use std::fmt;
 
-// The character of the digit that a number's lowest four bits make, for callers outside. The library's `from_digit` gives an Option and lower case.
+/// The character of the digit that a number's lowest four bits make, for callers outside. The library's `from_digit` gives an Option and lower case.
 pub fn digit(nibble: u8) -> char
     ensures { result ≡ the_digit (nibble % 16) }
 {
@@ -18,7 +18,7 @@ pub fn digit(nibble: u8) -> char
     }
 }
 
-// A byte, written as two digits.
+/// A byte, written as two digits.
 #[derive(Clone, Copy, Debug, PartialEq, Eq)]
 pub struct HexByte(pub u8);
 
@@ -32,7 +32,7 @@ impl fmt::Display for HexByte {
     }
 }
 
-// A number of 16 bits, written as four digits. One type for both would need a trait with the digits and the width of each, which is longer.
+/// A number of 16 bits, written as four digits. One type for both would need a trait with the digits and the width of each, which is longer.
 #[derive(Clone, Copy, Debug, PartialEq, Eq)]
 pub struct HexWord(pub u16);
 

@@ -1,4 +1,4 @@
-// Image checks, and whether an area may be started.
+//! Image checks, and whether an area may be started.
 #![tactic(auto)]
 
 ghost use Rattle.std.specs.Prelude.{◌≡◌, ℕ, ◌<◌, ◌≤◌, length, take, drop, fold, MatchOption};
@@ -15,15 +15,15 @@ pub use stored::Stored;
 pub use sum::{CcittCheck, Crc8Check, SumCheck, SumState};
 pub use vector::VectorOnly;
 
-// The entry of an area whose last two bytes are erased.
+/// The entry of an area whose last two bytes are erased.
 pub const ERASED: u16 = 0xFFFF;
 
-// An image check: a starting state, a step for each byte, and a yes or no of a state. It has its own kind of state and its own
-// length of stored sum, and shows that its calls are the three functions of `check`; nothing else is asked of it.
+/// An image check: a starting state, a step for each byte, and a yes or no of a state. It has its own kind of state and its own
+/// length of stored sum, and shows that its calls are the three functions of `check`; nothing else is asked of it.
 pub trait ImageCheck {
     type State;
 
-    // How many bytes the stored sum has, at the start of the image.
+    /// How many bytes the stored sum has, at the start of the image.
     const SUM_LENGTH: usize;
 
     // The same, as a number that a contract can name.
@@ -41,7 +41,7 @@ pub trait ImageCheck {
         ensures { result ≡ check.accepts state };
 }
 
-// Whether the check accepts these bytes.
+/// Whether the check accepts these bytes.
 pub fn accepts<C: ImageCheck>(image: &[u8]) -> bool
     ensures { result ≡ accepted C.ImageCheck.check image.now }
 {
@@ -53,14 +53,14 @@ pub fn accepts<C: ImageCheck>(image: &[u8]) -> bool
     C::accepts(state)
 }
 
-// The stored sum and the bytes that it covers, which are all later ones; None where the image is shorter than its stored sum.
+/// The stored sum and the bytes that it covers, which are all later ones; None where the image is shorter than its stored sum.
 pub fn split_sum<C: ImageCheck>(image: &[u8]) -> Option<(&[u8], &[u8])>
     ensures { MatchOption result (length image.now < C.ImageCheck.SUM_LENGTH) (λ p. (C.ImageCheck.SUM_LENGTH ≤ length image.now) × (p.0.now ≡ take C.ImageCheck.SUM_LENGTH image.now) × (p.1.now ≡ drop C.ImageCheck.SUM_LENGTH image.now)) }
 {
     image.split_at_checked(C::SUM_LENGTH)
 }
 
-// An area's entry: its last two bytes, low byte first; None where it has fewer.
+/// An area's entry: its last two bytes, low byte first; None where it has fewer.
 pub fn entry(area: &[u8]) -> Option<u16>
     ensures { result ≡ the_entry area.now }
 {
@@ -70,7 +70,7 @@ pub fn entry(area: &[u8]) -> Option<u16>
     }
 }
 
-// Whether an area may be started: its entry is not erased, and the check accepts its bytes.
+/// Whether an area may be started: its entry is not erased, and the check accepts its bytes.
 pub fn startable<C: ImageCheck>(area: &[u8]) -> bool
     ensures { result ≡ can_start (accepted C.ImageCheck.check) area.now }
 {
@@ -80,12 +80,12 @@ pub fn startable<C: ImageCheck>(area: &[u8]) -> bool
     }
 }
 
-// The check by any checksum accepts just the images whose stored sum is the sum of all later bytes.
+/// The check by any checksum accepts just the images whose stored sum is the sum of all later bytes.
 pub fn check_accepts_its_sum<S: Checksum<Register: Stored>>()
     ensures { AcceptsItsSum S.Register.LENGTH S.Register.number S.Register.eq (fold S.steps S.START) ⟦<SumCheck<S> as ImageCheck>⟧.check }
 {}
 
-// What a check by a stored sum accepts where the register is a number, and each of the three; none accepts an image that is shorter than its stored sum.
+/// What a check by a stored sum accepts where the register is a number, and each of the three; none accepts an image that is shorter than its stored sum.
 pub fn checks_accept_by_their_sums()
     ensures meanings { Meanings }
     ensures ccitt { (⟦<CcittCheck as ImageCheck>⟧.check ≡ ccitt_check) × (⟦<CcittCheck as ImageCheck>⟧.SUM_LENGTH ≡ 2) }

@@ -1,15 +1,15 @@
-// How an image stores a sum: in as many bytes as the sum's register has, the low one first.
+//! How an image stores a sum: in as many bytes as the sum's register has, the low one first.
 ghost use Rattle.std.specs.Prelude.{◌≡◌, ℕ, ◌<◌, List, length, fold};
 ghost use Rattle.image.specs.Sums.{pushed, number as the_number};
 ghost use Rattle.image.specs.Reading.{reads as bytes_are_read};
 ghost use Rattle.std.proofs.Common.{rules};
 
-// A register that can be read from its stored bytes, one at a time.
+/// A register that can be read from its stored bytes, one at a time.
 pub trait Stored: Copy + PartialEq {
-    // How many bytes are stored.
+    /// How many bytes are stored.
     const LENGTH: usize;
 
-    // What stands in the register before the first of them.
+    /// What stands in the register before the first of them.
     const ZERO: Self;
 
     ghost LENGTH: { ℕ };
@@ -21,7 +21,7 @@ pub trait Stored: Copy + PartialEq {
     // The number that a list of bytes is, the low one first.
     ghost number: { List ℕ → Self };
 
-    // The next stored byte comes in at the top, and those before it move down.
+    /// The next stored byte comes in at the top, and those before it move down.
     fn push(self, byte: u8) -> Self
         ensures { result ≡ push self byte };
 

@@ -1,19 +1,19 @@
-// An image whose first bytes, low byte first, are a checksum's sum of all later bytes.
+//! An image whose first bytes, low byte first, are a checksum's sum of all later bytes.
 ghost use Rattle.image.specs.Sums.{sum_check};
 
 use crate::{ImageCheck, Stored};
 use crc::{Checksum, Crc8, CrcCcitt};
 use std::marker::PhantomData;
 
-// What has been seen: a part of the stored sum, or the whole of it with the register over the later bytes.
-// `missing` is counted down by hand: each byte comes in a call of its own, so that there is nothing to go over.
+/// What has been seen: a part of the stored sum, or the whole of it with the register over the later bytes.
+/// `missing` is counted down by hand: each byte comes in a call of its own, so that there is nothing to go over.
 #[derive(Clone, Copy, Debug, PartialEq, Eq)]
 pub enum SumState<R> {
     Storing { missing: usize, stored: R },
     Summing { stored: R, register: R },
 }
 
-// The check by the checksum `S`.
+/// The check by the checksum `S`.
 #[derive(Clone, Copy, Debug)]
 pub struct SumCheck<S>(PhantomData<S>);
 

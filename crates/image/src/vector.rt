@@ -1,4 +1,4 @@
-// An image with no stored sum: every list is accepted, and only the entry decides.
+//! An image with no stored sum: every list is accepted, and only the entry decides.
 ghost use Rattle.image.specs.Sums.{vector_check};
 
 use crate::ImageCheck;

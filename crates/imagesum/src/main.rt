@@ -1,5 +1,5 @@
-// Reads an application image from standard input. It tells its length, its sums, its entry and whether a controller may start it,
-// or, with the word `seal`, writes it back with its stored CRC-CCITT sum put right.
+//! Reads an application image from standard input. It tells its length, its sums, its entry and whether a controller may start it,
+//! or, with the word `seal`, writes it back with its stored CRC-CCITT sum put right.
 #![tactic(auto)]
 
 use inspect::{Misuse, Task};

@@ -1,4 +1,4 @@
-// What there is to tell of an application image, and an image with its stored sum put right.
+//! What there is to tell of an application image, and an image with its stored sum put right.
 #![tactic(auto)]
 
 ghost use Rattle.std.specs.Prelude.{◌≡◌, fold};
@@ -15,14 +15,14 @@ mod text;
 
 pub use text::{Field, Verdict};
 
-// A sum as worked out over the bytes that it covers, and as the image stores it.
+/// A sum as worked out over the bytes that it covers, and as the image stores it.
 #[derive(Clone, Copy, Debug, PartialEq, Eq)]
 pub struct Sums<R> {
     pub computed: R,
     pub stored: R,
 }
 
-// Why an image may not be started.
+/// Why an image may not be started.
 #[derive(Clone, Copy, Debug, PartialEq, Eq)]
 pub enum Reason {
     NoEntry,
@@ -30,7 +30,7 @@ pub enum Reason {
     WrongSum,
 }
 
-// Whether an image may be started under each of the three checks.
+/// Whether an image may be started under each of the three checks.
 #[derive(Clone, Copy, Debug, PartialEq, Eq)]
 pub struct Verdicts {
     pub ccitt: Result<(), Reason>,
@@ -38,7 +38,7 @@ pub struct Verdicts {
     pub vector: Result<(), Reason>,
 }
 
-// What there is to tell of an image; its sums and its entry are None where it is too short for them.
+/// What there is to tell of an image; its sums and its entry are None where it is too short for them.
 #[derive(Clone, Copy, Debug, PartialEq, Eq)]
 pub struct Report {
     pub length: usize,
@@ -48,25 +48,25 @@ pub struct Report {
     pub verdicts: Verdicts,
 }
 
-// What can be asked for.
+/// What can be asked for.
 #[derive(Clone, Copy, Debug, PartialEq, Eq)]
 pub enum Task {
     Inspect,
     Seal,
 }
 
-// Words that name no task.
+/// Words that name no task.
 #[derive(Clone, Copy, Debug, PartialEq, Eq)]
 pub enum Misuse {
     UnknownWord,
     TooManyWords,
 }
 
-// The sum that an image was sealed with.
+/// The sum that an image was sealed with.
 #[derive(Clone, Copy, Debug, PartialEq, Eq)]
 pub struct Sealed(pub u16);
 
-// An image of fewer than two bytes has no room for a stored CRC-CCITT sum.
+/// An image of fewer than two bytes has no room for a stored CRC-CCITT sum.
 #[derive(Clone, Copy, Debug, PartialEq, Eq)]
 pub struct TooShort;
 
@@ -84,7 +84,7 @@ impl FromStr for Task {
     }
 }
 
-// The sums of an image by a checksum; None where it is shorter than its stored sum.
+/// The sums of an image by a checksum; None where it is shorter than its stored sum.
 pub fn sums_of<S: Checksum<Register: Stored>>(image: &[u8]) -> Option<Sums<S::Register>>
     ensures { result ≡ sums_of S.Register.LENGTH S.Register.number (fold S.steps S.START) image.now }
 {
@@ -99,7 +99,7 @@ pub fn sums_of<S: Checksum<Register: Stored>>(image: &[u8]) -> Option<Sums<S::Re
     })
 }
 
-// Whether a controller with this check may start the image, and why not.
+/// Whether a controller with this check may start the image, and why not.
 pub fn judge<C: ImageCheck>(image: &[u8]) -> Result<(), Reason>
     ensures { result ≡ verdict (accepted C.ImageCheck.check) image.now }
 {
@@ -113,7 +113,7 @@ pub fn judge<C: ImageCheck>(image: &[u8]) -> Result<(), Reason>
     }
 }
 
-// All there is to tell of an image.
+/// All there is to tell of an image.
 pub fn inspect(image: &[u8]) -> Report
     ensures told { result ≡ report image.now }
     ensures judged { Judged image.now result.verdicts }
@@ -131,7 +131,7 @@ pub fn inspect(image: &[u8]) -> Report
     }
 }
 
-// Puts the stored CRC-CCITT sum right, and tells it.
+/// Puts the stored CRC-CCITT sum right, and tells it.
 pub fn seal(image: &mut [u8]) -> Result<Sealed, TooShort>
     ensures { Seals image.old image.new result }
 {

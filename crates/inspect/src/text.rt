@@ -1,4 +1,4 @@
-// A report in plain words, one fact a line.
+//! A report in plain words, one fact a line.
 ghost use Rattle.std.specs.Prelude.{◌++◌, Some, codes};
 ghost use Rattle.hex_digits.specs.Digits.{word_digits};
 ghost use Rattle.inspect.specs.Text.{field_output, reason_text, verdict_text, misuse_text, report_text};
@@ -8,7 +8,7 @@ use hex_digits::{HexByte, HexWord};
 use std::error::Error;
 use std::fmt;
 
-// A number in digits, or why there is none; public, so that a caller can show one number alone.
+/// A number in digits, or why there is none; public, so that a caller can show one number alone.
 #[derive(Clone, Copy, Debug, PartialEq, Eq)]
 pub struct Field<D>(pub Option<D>);
 
@@ -37,7 +37,7 @@ impl fmt::Display for Reason {
 
 impl Error for Reason {}
 
-// Whether an image may be started, in words; public, so that a caller can show one verdict alone.
+/// Whether an image may be started, in words; public, so that a caller can show one verdict alone.
 #[derive(Clone, Copy, Debug, PartialEq, Eq)]
 pub struct Verdict(pub Result<(), Reason>);
 

@@ -1,9 +1,9 @@
-// A layout, with the numbers that one can have.
+//! A layout, with the numbers that one can have.
 ghost use Rattle.std.specs.Prelude.{◌≤◌};
 
 mod places;
 
-// The segments of an application and those of the boot area.
+/// The segments of an application and those of the boot area.
 #[derive(Clone, Copy, Debug, PartialEq, Eq)]
 pub struct Layout {
     k: u8,

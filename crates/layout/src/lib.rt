@@ -1,4 +1,4 @@
-// How a memory is divided into areas.
+//! How a memory is divided into areas.
 #![tactic(auto)]
 
 mod divided;

@@ -1,4 +1,4 @@
-// The lines that a bench writes: how each event of its script came out.
+//! The lines that a bench writes: how each event of its script came out.
 #![tactic(auto)]
 
 ghost use Rattle.std.specs.Prelude.{◌≡◌, ◌++◌, IfOk, Some, is_ok, if◌then◌else◌, encode_utf8};
@@ -35,7 +35,7 @@ fn value(outcome: Outcome<Reply>) -> u8
     }
 }
 
-// The number of an event, and how it came out.
+/// The number of an event, and how it came out.
 #[derive(Clone, Copy, Debug, PartialEq, Eq)]
 pub struct Line {
     pub number: usize,
@@ -53,8 +53,8 @@ impl fmt::Display for Line {
     }
 }
 
-// Appends the line of an event. After an error the bytes are as they were.
-// Bytes and no String: a type may ask no more of callers, so not for UTF-8, and `write!` says nothing of a String after an error.
+/// Appends the line of an event. After an error the bytes are as they were.
+/// Bytes and no String: a type may ask no more of callers, so not for UTF-8, and `write!` says nothing of a String after an error.
 pub fn append(bytes: &mut Vec<u8>, number: usize, outcome: Outcome<Reply>) -> Result<(), AllocError>
     ensures { bytes.new.items ≡ (if is_ok result then bytes.old.items ++ line_bytes number outcome else bytes.old.items) }
 {
@@ -62,7 +62,7 @@ pub fn append(bytes: &mut Vec<u8>, number: usize, outcome: Outcome<Reply>) -> Re
     bytes.extend_from_slice(line.as_bytes())
 }
 
-// The lines of a script that was played: one for each turn, up to the first that was not played, and one for the refusal of its ending.
+/// The lines of a script that was played: one for each turn, up to the first that was not played, and one for the refusal of its ending.
 pub fn lines(
     alloc: Global,
     turns: &[Turn<u8, Reply>],

@@ -1,4 +1,4 @@
-// A memory whose supply may fail in any change, and changes made in turn over any such memory.
+//! A memory whose supply may fail in any change, and changes made in turn over any such memory.
 #![tactic(auto)]
 
 ghost use Rattle.std.specs.Prelude.{◌≡◌, Some};
@@ -10,7 +10,7 @@ ghost use Rattle.memory.specs.Ran.{Wrote, Cleared};
 use std::error::Error;
 use std::fmt;
 
-// Why a change is refused. A lost supply comes with the first place that the change would have touched.
+/// Why a change is refused. A lost supply comes with the first place that the change would have touched.
 #[derive(Clone, Copy, Debug, PartialEq, Eq)]
 pub enum Fault {
     SupplyLost(usize),
@@ -18,7 +18,7 @@ pub enum Fault {
 }
 
 impl Fault {
-    // A method and no conversion into a number: the place is dropped.
+    /// A method and no conversion into a number: the place is dropped.
     pub fn number(self) -> u8
         ensures { result ≡ fault_number self }
     {
@@ -58,7 +58,7 @@ pub trait Memory {
     fn erase(&mut self, segment: usize) -> Result<(), Fault>
         ensures { make.changes (erase segment) self.old self.new result };
 
-    // The supply returns.
+    /// The supply returns.
     fn restore(&mut self)
         ensures { make.restores self.old self.new };
 
@@ -66,7 +66,7 @@ pub trait Memory {
     ghost laws: { Laws make };
 }
 
-// Writes bytes one after the other from a place up, until one is refused.
+/// Writes bytes one after the other from a place up, until one is refused.
 pub fn write_all<M: Memory>(memory: &mut M, place: usize, bytes: &[u8]) -> Result<(), Fault>
     ensures { Wrote M.Memory.make place bytes.now memory.old memory.new result }
 {
@@ -77,7 +77,7 @@ pub fn write_all<M: Memory>(memory: &mut M, place: usize, bytes: &[u8]) -> Resul
     Ok(())
 }
 
-// Erases so many segments one after the other from one up, until one is refused.
+/// Erases so many segments one after the other from one up, until one is refused.
 pub fn erase_all<M: Memory>(memory: &mut M, segment: usize, count: usize) -> Result<(), Fault>
     ensures { Cleared M.Memory.make segment count memory.old memory.new result }
 {

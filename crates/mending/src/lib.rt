@@ -1,4 +1,4 @@
-// What a restart does to the memory: an approved image is brought into place, and any mark goes.
+//! What a restart does to the memory: an approved image is brought into place, and any mark goes.
 #![tactic(auto)]
 
 ghost use Rattle.std.specs.Prelude.{◌≡◌, ◌+◌, ◌*◌, ◌<◌, ◌≤◌, ◌==◌, if◌then◌else◌, Ok, Err};
@@ -82,7 +82,7 @@ impl Work for RestartWork<'_> {
     }
 }
 
-// Refuses a memory of another size than the layout's.
+/// Refuses a memory of another size than the layout's.
 pub fn check_size<M: Memory>(memory: &M, layout: &Layout) -> Result<(), Refusal>
     ensures { result ≡ (if the_size (M.Memory.make.state memory.now) == whole_size layout.now then Ok tt else Err WrongSize) }
 {
@@ -93,8 +93,8 @@ pub fn check_size<M: Memory>(memory: &M, layout: &Layout) -> Result<(), Refusal>
     }
 }
 
-// Brings an approved image into place and erases the mark and the download area, where there is a mark. A memory of another size than
-// the layout's is refused.
+/// Brings an approved image into place and erases the mark and the download area, where there is a mark. A memory of another size than
+/// the layout's is refused.
 pub fn mend<M: Memory>(memory: &mut M, layout: &Layout) -> Result<(), Refusal>
     ensures { Mended M.Memory.make layout.now memory.old memory.new result }
 {

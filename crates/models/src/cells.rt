@@ -1,9 +1,9 @@
-// The two technologies of memory.
+//! The two technologies of memory.
 ghost use Rattle.std.specs.Prelude.{◌≡◌};
 ghost use Rattle.models.specs.Cells.{Cells as CellRules, Sound, flash, fram};
 ghost use Rattle.models.specs.Technologies.{flash_sound, fram_sound};
 
-// How a write mixes two bytes, and what a torn change leaves under a pattern.
+/// How a write mixes two bytes, and what a torn change leaves under a pattern.
 pub trait Cells {
     ghost rules: { CellRules };
 

@@ -1,4 +1,4 @@
-// Two simulated memories with exact cuts, flash and FRAM, over bytes and a list of cuts that the caller holds.
+//! Two simulated memories with exact cuts, flash and FRAM, over bytes and a list of cuts that the caller holds.
 #![tactic(auto)]
 
 ghost use Rattle.models.specs.Simulated.{Exact};
@@ -13,7 +13,7 @@ pub type Flash<'b, 'c> = Simulated<'b, 'c, FlashCells>;
 
 pub type Fram<'b, 'c> = Simulated<'b, 'c, FramCells>;
 
-// Every list of changes has one outcome: the bytes, the counters, the supply and the end are the ones that the definitions give.
+/// Every list of changes has one outcome: the bytes, the counters, the supply and the end are the ones that the definitions give.
 #[tactic(auto, using(crate::proofs::Outcomes::exact))]
 pub fn changes_have_one_outcome<C: Cells>()
     ensures { Exact C.Cells.rules C }

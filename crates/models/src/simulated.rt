@@ -1,4 +1,4 @@
-// What flash and FRAM share: size, refusals, and the counting of cuts.
+//! What flash and FRAM share: size, refusals, and the counting of cuts.
 ghost use Rattle.std.specs.Prelude.{◌≡◌, ◌+◌, ◌≤◌, OnOk};
 ghost use Rattle.models.specs.Simulated.{room as the_room, fate, counted as the_counted, Fresh};
 ghost use Rattle.models.specs.Simulated.{simulated};
@@ -8,14 +8,14 @@ use crate::Cells;
 use memory::{Fault, Memory};
 use std::marker::PhantomData;
 
-// After so many finished changes the next one is torn, in the way that the pattern says.
+/// After so many finished changes the next one is torn, in the way that the pattern says.
 #[derive(Clone, Copy, Debug, PartialEq, Eq)]
 pub struct Cut {
     pub count: u32,
     pub pattern: u16,
 }
 
-// A memory over a caller's bytes. Those of the caller's cuts that are still to come are left in `cuts`.
+/// A memory over a caller's bytes. Those of the caller's cuts that are still to come are left in `cuts`.
 #[derive(Drop)]
 pub struct Simulated<'b, 'c, C> {
     bytes: &'b mut [u8],
@@ -26,7 +26,7 @@ pub struct Simulated<'b, 'c, C> {
 }
 
 impl<'b, 'c, C> Simulated<'b, 'c, C> {
-    // Over the caller's bytes and cuts, with the supply on.
+    /// Over the caller's bytes and cuts, with the supply on.
     pub fn new(bytes: &'b mut [u8], cuts: &'c [Cut]) -> Simulated<'b, 'c, C>
         ensures { Fresh bytes.entry cuts.entry result }
     {

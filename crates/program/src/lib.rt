@@ -1,4 +1,4 @@
-// How each program of this repository ends.
+//! How each program of this repository ends.
 #![tactic(auto)]
 
 ghost use Rattle.std.specs.Prelude.{◌≡◌, cond};
@@ -7,7 +7,7 @@ ghost use Rattle.std.specs.Process.{exit_status};
 
 use std::process::ExitCode;
 
-// Success, or status 1 after one line on standard error that says why.
+/// Success, or status 1 after one line on standard error that says why.
 pub fn exit_code(rt: &HostRuntime, name: &str, outcome: anyhow::Result<()>) -> ExitCode
     ensures { exit_status result ≡ cond (is_ok outcome) 0 1 }
 {

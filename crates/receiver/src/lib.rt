@@ -1,4 +1,4 @@
-// The receiver of MSPBoot's frames: bytes come one at a time, and each continues a frame, completes it or is an error.
+//! The receiver of MSPBoot's frames: bytes come one at a time, and each continues a frame, completes it or is an error.
 #![tactic(auto)]
 
 ghost use Rattle.std.specs.Prelude.{◌+◌, ◌<◌, ◌≤◌, length};
@@ -16,7 +16,7 @@ enum Receiving {
     Rest { need: u8 },
 }
 
-// A receive state, and what has come after the length; once a good frame is complete, its payload. There is no heap here.
+/// A receive state, and what has come after the length; once a good frame is complete, its payload. There is no heap here.
 #[derive(Drop)]
 pub struct Receiver {
     state: Receiving,

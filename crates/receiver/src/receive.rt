@@ -1,4 +1,4 @@
-// What a receiver does with a byte.
+//! What a receiver does with a byte.
 ghost use Rattle.std.specs.Prelude.{◌≡◌, ◌≤◌, true, Ok, [], ◌∷◌, ◌++◌, length};
 ghost use Rattle.rule.specs.Frame.{judge};
 ghost use Rattle.receiver.specs.Packet.{packet};
@@ -10,7 +10,7 @@ use crc::CrcCcitt;
 use words::Answer;
 
 impl Receiver {
-    // A header is expected.
+    /// A header is expected.
     pub fn new() -> Receiver
         ensures expects { packet result ≡ [] }
         ensures clear { result.rest.items ≡ [] }
@@ -21,15 +21,15 @@ impl Receiver {
         }
     }
 
-    // The payload of a good frame, until the next byte comes.
+    /// The payload of a good frame, until the next byte comes.
     pub fn payload(&self) -> &[u8]
         ensures { result.now ≡ self.now.rest.items }
     {
         self.rest.as_slice()
     }
 
-    // The next byte from the host: whether it completes a good frame, or the answer to an error. A payload that is lent out here would hide
-    // from a contract what becomes of the receiver, so `payload` lends it.
+    /// The next byte from the host: whether it completes a good frame, or the answer to an error. A payload that is lent out here would hide
+    /// from a contract what becomes of the receiver, so `payload` lends it.
     pub fn byte(&mut self, byte: u8) -> Result<bool, Answer>
         ensures count { result ≡ Ok true → length self.new.rest.items ≤ 19 }
         ensures event { told result self.new.rest.items ≡ judge (packet self.old ++ byte ∷ []) }

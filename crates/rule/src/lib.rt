@@ -1,5 +1,5 @@
-// The rule on cuts: what a controller runs after its supply has failed, whatever its memory, its image check and its bus; and how a lost
-// change is told.
+//! The rule on cuts: what a controller runs after its supply has failed, whatever its memory, its image check and its bus; and how a lost
+//! change is told.
 #![tactic(auto)]
 
 ghost use Rattle.std.specs.Prelude.{◌≡◌, ℕ};
@@ -15,38 +15,38 @@ use image::ImageCheck;
 use memory::{Fault, Memory};
 use words::{Job, Refusal};
 
-// A bus by which a host speaks to a controller.
+/// A bus by which a host speaks to a controller.
 pub trait HostBus {
     ghost bus: { Bus };
 
     ghost law: { Law bus };
 }
 
-// The rule on cuts, for two controllers over any two memories and any two buses, with one image check.
+/// The rule on cuts, for two controllers over any two memories and any two buses, with one image check.
 pub fn rule_on_cuts<A: Memory, B: Memory, C: ImageCheck, U: HostBus, V: HostBus>()
     ensures { Rule (engine U.HostBus.bus (accepted C.ImageCheck.check) A.Memory.make) (engine V.HostBus.bus (accepted C.ImageCheck.check) B.Memory.make) }
 {}
 
-// On frames, a command is acted on exactly where the bytes since the last answer are a good frame.
+/// On frames, a command is acted on exactly where the bytes since the last answer are a good frame.
 pub fn good_frames_are_acted_on<M: Memory, C: ImageCheck>()
     ensures kept { Unfinished (accepted C.ImageCheck.check) M.Memory.make }
     ensures acted { ActsOnGoodFrames }
 {}
 
-// On frames, the accepted jumps are the jump frames that are answered 0x00.
+/// On frames, the accepted jumps are the jump frames that are answered 0x00.
 pub fn jumps_are_told_by_their_answer<M: Memory, C: ImageCheck>()
     ensures { JumpsTold (accepted C.ImageCheck.check) M.Memory.make }
 {}
 
-// What is at work on a memory. A change that loses its supply is told with the job that its place belongs to. No closure finds the
-// job: a public function that calls one has to ask, by a `requires`, that it may.
+/// What is at work on a memory. A change that loses its supply is told with the job that its place belongs to. No closure finds the
+/// job: a public function that calls one has to ask, by a `requires`, that it may.
 pub trait Work {
     ghost jobs: { Self → ℕ → Job };
 
     fn job(&self, place: usize) -> Job
         ensures { result ≡ jobs self.now place };
 
-    // The refusal by which a call tells a fault of its memory.
+    /// The refusal by which a call tells a fault of its memory.
     final fn refusal(&self, fault: Fault) -> Refusal
         ensures { result ≡ refusing (jobs self.now) fault }
     {

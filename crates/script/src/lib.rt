@@ -1,4 +1,4 @@
-// The input of a bench: the layout and the kind of a memory, the cuts of its supply, and the calls to make.
+//! The input of a bench: the layout and the kind of a memory, the cuts of its supply, and the calls to make.
 #![tactic(auto)]
 
 ghost use Rattle.std.specs.Prelude.{◌≡◌, map, IfOk, ok_or, alloc_error};
@@ -17,7 +17,7 @@ use words::{Call, Inputs, Refusal, Reply, Turn};
 // A script has so many cuts at most.
 const MOST_CUTS: u16 = 64;
 
-// What the memory is made of.
+/// What the memory is made of.
 #[derive(Clone, Copy, Debug, PartialEq, Eq)]
 pub enum Kind {
     Flash,
@@ -44,11 +44,11 @@ pub struct Script {
     pub kind: Kind,
     pub cuts: Vec<Cut>,
     pub turns: Vec<Turn<u8, Reply>>,
-    // The refusal of an input whose events end before one that is malformed or missing.
+    /// The refusal of an input whose events end before one that is malformed or missing.
     pub ending: Result<(), Refusal>,
 }
 
-// Why there is no script.
+/// Why there is no script.
 #[derive(Clone, Copy, Debug, PartialEq, Eq)]
 pub enum Stop {
     Refused(Refusal),
@@ -153,7 +153,7 @@ fn events(
     Ok((turns, ending))
 }
 
-// Reads a whole input.
+/// Reads a whole input.
 pub fn read(alloc: Global, input: &[u8]) -> Result<Script, Stop>
     ensures { Gives result (the_script input.now) }
 {

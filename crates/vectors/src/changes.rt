@@ -1,4 +1,4 @@
-// Changes and cuts of the two simulated memories: what each change answers, and what the caller's bytes are at the end.
+//! Changes and cuts of the two simulated memories: what each change answers, and what the caller's bytes are at the end.
 use crc::CrcCcitt;
 use memory::{Fault, Memory};
 use models::{Cells, Cut, FlashCells, FramCells, Simulated};

@@ -1,4 +1,4 @@
-// Images of all lengths that matter, told, sealed and told again.
+//! Images of all lengths that matter, told, sealed and told again.
 
 fn tell(rt: &HostRuntime, name: &str, image: &mut [u8]) -> anyhow::Result<()> {
     println!(rt; "an image of {name}")?;

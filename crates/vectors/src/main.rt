@@ -1,4 +1,4 @@
-// Cases with values that were published or worked out independently, run through the libraries. What is printed is compared.
+//! Cases with values that were published or worked out independently, run through the libraries. What is printed is compared.
 #![tactic(auto)]
 
 mod changes;

@@ -1,4 +1,4 @@
-// Published and independently worked out check values of the two sums.
+//! Published and independently worked out check values of the two sums.
 use anyhow::ensure;
 use crc::{Crc8, CrcCcitt};
 
@@ -120,7 +120,7 @@ const CASES: [Case; 15] = [
     },
 ];
 
-// One line a case. Gives an error where one differs; the count stays with the printing, since a filter would be a second pass.
+/// One line a case. Gives an error where one differs; the count stays with the printing, since a filter would be a second pass.
 pub fn run(rt: &HostRuntime) -> anyhow::Result<()> {
     let mut differ = 0;
     for case in CASES {

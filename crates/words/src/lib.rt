@@ -1,10 +1,10 @@
-// The words of the calls: phases, answers, jobs, refusals and outcomes, with their numbers.
+//! The words of the calls: phases, answers, jobs, refusals and outcomes, with their numbers.
 #![tactic(auto)]
 
 ghost use Rattle.std.specs.Prelude.{◌≡◌};
 ghost use Rattle.words.specs.Numbers.{answer_byte, job_number, refusal_number};
 
-// What a controller is doing.
+/// What a controller is doing.
 #[derive(Clone, Copy, Debug, PartialEq, Eq)]
 pub enum Phase {
     Waiting,
@@ -12,7 +12,7 @@ pub enum Phase {
     Running,
 }
 
-// The single byte that answers a host.
+/// The single byte that answers a host.
 #[derive(Clone, Copy, Debug, PartialEq, Eq)]
 pub enum Answer {
     Done = 0x00,
@@ -33,7 +33,7 @@ impl From<Answer> for u8 {
     }
 }
 
-// What was at work when the supply went.
+/// What was at work when the supply went.
 #[derive(Clone, Copy, Debug, PartialEq, Eq)]
 pub enum Job {
     Copy = 1,
@@ -50,7 +50,7 @@ impl From<Job> for u8 {
     }
 }
 
-// Why a call is refused. A lost supply comes with the first place of the change that it stopped, and with the job.
+/// Why a call is refused. A lost supply comes with the first place of the change that it stopped, and with the job.
 #[derive(Clone, Copy, Debug, PartialEq, Eq)]
 pub enum Refusal {
     BadLayout,
@@ -63,7 +63,7 @@ pub enum Refusal {
 }
 
 impl Refusal {
-    // A refusal is more than its number, so this is no conversion.
+    /// A refusal is more than its number, so this is no conversion.
     pub fn number(self) -> u8
         ensures { result ≡ refusal_number self }
     {
@@ -79,7 +79,7 @@ impl Refusal {
     }
 }
 
-// What a restart is given: the pin's level, and the password and the status word that an application may have left.
+/// What a restart is given: the pin's level, and the password and the status word that an application may have left.
 #[derive(Clone, Copy, Debug, PartialEq, Eq)]
 pub struct Inputs {
     pub pin_high: bool,
@@ -87,27 +87,27 @@ pub struct Inputs {
     pub status: u8,
 }
 
-// A call of a controller: an event of its bus, or a restart.
+/// A call of a controller: an event of its bus, or a restart.
 #[derive(Clone, Copy, Debug, PartialEq, Eq)]
 pub enum Call<E> {
     Tell(E),
     Restart(Inputs),
 }
 
-// What a call that is not refused gives: what the bus says to an event, or the phase that a restart chose.
+/// What a call that is not refused gives: what the bus says to an event, or the phase that a restart chose.
 #[derive(Clone, Copy, Debug, PartialEq, Eq)]
 pub enum Success<R> {
     Said(R),
     Chose(Phase),
 }
 
-// How a call came out.
+/// How a call came out.
 pub type Outcome<R> = Result<Success<R>, Refusal>;
 
-// What the bus of frames says to a byte: an answer, or nothing yet.
+/// What the bus of frames says to a byte: an answer, or nothing yet.
 pub type Reply = Option<Answer>;
 
-// A call, and how it came out once it has been made.
+/// A call, and how it came out once it has been made.
 #[derive(Clone, Copy, Debug, PartialEq, Eq)]
 pub struct Turn<E, R> {
     pub call: Call<E>,

@@ -1,4 +1,4 @@
-// The worked examples, computed over the definitions that the contracts cite.
+//! The worked examples, computed over the definitions that the contracts cite.
 #![tactic(auto)]
 
 ghost use Rattle.worked.specs.Worked.{Worked};
