@@ -1,5 +1,6 @@
 //! What a caller knows of its own arrays once simulated memories over them are gone: every byte, those beyond the last whole segment
-//! too, and how the changes ended; also through generic code. Each call does the same to a flash and to a FRAM.
+//! too, and how the changes ended; also through generic code. Each call does the same to a flash and to a FRAM. The three are written
+//! out one by one, as a caller would write each.
 #![tactic(auto)]
 
 ghost use Rattle.std.specs.Prelude.{◌≡◌, ◌++◌, replicate, Ok, Err, slice_set};

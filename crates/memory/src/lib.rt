@@ -18,7 +18,7 @@ pub enum Fault {
 }
 
 impl Fault {
-    /// A method and no conversion into a number: the place is dropped.
+    /// A method and no conversion into a number: the place is dropped. A call's refusals, which a memory does not know, have these numbers too.
     pub fn number(self) -> u8
         ensures { result ≡ fault_number self }
     {
