@@ -12,7 +12,8 @@ use memory::Memory;
 
 /// Whether so many bytes of a memory from a place up may be started: their entry is not erased, and the check accepts them. A place
 /// past the end reads 0xFF.
-/// Beside image::startable, over a slice: one function over any source takes an iterator or a closure, and has to ask that it ends and may be called.
+/// Not one function with `image::startable`: over any source it would take an iterator or a closure and need a `requires`, which no public
+/// function here has.
 pub fn startable_at<M: Memory, C: ImageCheck>(memory: &M, place: usize, length: usize) -> bool
     ensures { result ≡ startable (accepted C.ImageCheck.check) (reads (M.Memory.make.state memory.now) place length) }
 {
@@ -27,6 +28,7 @@ pub fn startable_at<M: Memory, C: ImageCheck>(memory: &M, place: usize, length: 
     if u16::from_le_bytes([low, high]) == image::ERASED {
         return false;
     }
+    // A closure for the step, as in `image::accepts`.
     let state = (0..length)
         .map(byte)
         .fold(C::start(), |state, byte| C::step(state, byte));

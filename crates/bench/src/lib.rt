@@ -54,6 +54,7 @@ pub fn tell(alloc: Global, input: &[u8]) -> Result<Vec<u8>, AllocError>
             line::append(&mut bytes, 0, Err(why))?;
             Ok(bytes)
         }
+        // Handed on by an arm: the other error is told in a line, so no `?` takes both.
         Err(Stop::OutOfMemory(error)) => Err(error),
     }
 }

@@ -16,6 +16,7 @@ pub struct Left {
     pub end: Result<(), Fault>,
 }
 
+/// What is left in each technology.
 #[derive(Clone, Copy, Debug, PartialEq, Eq)]
 pub struct Both {
     pub flash: Left,
@@ -87,7 +88,7 @@ fn whole_run_in<C: Cells>(written: [u8; 3]) -> Left
     let cuts: [Cut; 0] = [];
     let mut bytes = [0x05; 600];
     let mut memory: Simulated<C> = Simulated::new(&mut bytes, &cuts);
-    // Told by what the write then leaves.
+    // How it ended is not kept: what the write leaves shows that it finished.
     let _ = erase_all(&mut memory, 0, 1);
     let end = write_all(&mut memory, 3, &written);
     Left { bytes, end }

@@ -26,6 +26,7 @@ use words::{Call, Inputs, Outcome, Phase, Refusal, Reply, Success, Turn};
 // The password by which an application asks for the host.
 const PASSWORD: u16 = 0xC0DE;
 
+/// A controller: its layout, what it is doing, and what has come in of a frame.
 #[derive(Drop)]
 pub struct Controller {
     layout: Layout,

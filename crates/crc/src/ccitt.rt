@@ -29,6 +29,7 @@ const TABLE: [u16; 256] = [
     0x2E93, 0x3EB2, 0x0ED1, 0x1EF0,
 ];
 
+/// The checksum CRC-CCITT.
 #[derive(Clone, Copy, Debug)]
 pub struct CrcCcitt;
 

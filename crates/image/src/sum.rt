@@ -17,8 +17,10 @@ pub enum SumState<R> {
 #[derive(Clone, Copy, Debug)]
 pub struct SumCheck<S>(PhantomData<S>);
 
+/// The check by a stored CRC-CCITT sum.
 pub type CcittCheck = SumCheck<CrcCcitt>;
 
+/// The check by a stored CRC-8 sum.
 pub type Crc8Check = SumCheck<Crc8>;
 
 impl<S: Checksum<Register: Stored>> ImageCheck for SumCheck<S> {

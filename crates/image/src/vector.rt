@@ -3,6 +3,7 @@ ghost use Rattle.image.specs.Sums.{vector_check};
 
 use crate::ImageCheck;
 
+/// The check by nothing but the entry.
 #[derive(Clone, Copy, Debug)]
 pub struct VectorOnly;
 

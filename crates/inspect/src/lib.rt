@@ -135,9 +135,7 @@ pub fn inspect(image: &[u8]) -> Report
 pub fn seal(image: &mut [u8]) -> Result<Sealed, TooShort>
     ensures { Seals image.old image.new result }
 {
-    let Some((stored, covered)) = image.split_first_chunk_mut::<2>() else {
-        return Err(TooShort);
-    };
+    let (stored, covered) = image.split_first_chunk_mut::<2>().ok_or(TooShort)?;
     let sum = crc::sum::<CrcCcitt>(covered);
     *stored = sum.to_le_bytes();
     Ok(Sealed(sum))

@@ -1,4 +1,7 @@
-//! The mark byte of an approved image, and that of none.
+//! The mark: what the byte at place 0 says.
+
+/// The mark of an approved image.
 pub const APPROVED: u8 = 0x5A;
 
+/// The mark where none is approved.
 pub const ERASED: u8 = 0xFF;

@@ -54,7 +54,7 @@ impl fmt::Display for Line {
 }
 
 /// Appends the line of an event. After an error the bytes are as they were.
-/// Bytes and no String: a type may ask no more of callers, so not for UTF-8, and `write!` says nothing of a String after an error.
+/// Bytes and no String: of a caller's buffer no UTF-8 is asked, and `write!` promises nothing of a String after an error.
 pub fn append(bytes: &mut Vec<u8>, number: usize, outcome: Outcome<Reply>) -> Result<(), AllocError>
     ensures { bytes.new.items ≡ (if is_ok result then bytes.old.items ++ line_bytes number outcome else bytes.old.items) }
 {

@@ -42,6 +42,7 @@ impl fmt::Display for Fault {
 
 impl Error for Fault {}
 
+/// A memory of whole segments, any change of which may lose the supply.
 pub trait Memory {
     // What is known of a memory, and how a change and the return of its supply come out.
     ghost make: { Make Self };

@@ -20,6 +20,7 @@ pub trait Cells {
     ghost sound: { Sound rules };
 }
 
+/// Flash can only clear bits.
 #[derive(Clone, Copy, Debug)]
 pub struct FlashCells;
 
@@ -45,6 +46,7 @@ impl Cells for FlashCells {
     }
 }
 
+/// FRAM takes any byte.
 #[derive(Clone, Copy, Debug)]
 pub struct FramCells;
 

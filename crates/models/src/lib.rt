@@ -9,8 +9,10 @@ mod simulated;
 pub use cells::{Cells, FlashCells, FramCells};
 pub use simulated::{Cut, Simulated};
 
+/// A simulated flash.
 pub type Flash<'b, 'c> = Simulated<'b, 'c, FlashCells>;
 
+/// A simulated FRAM.
 pub type Fram<'b, 'c> = Simulated<'b, 'c, FramCells>;
 
 /// Every list of changes has one outcome: the bytes, the counters, the supply and the end are the ones that the definitions give.

@@ -89,7 +89,7 @@ impl<'b, 'c, C: Cells> Memory for Simulated<'b, 'c, C> {
         }
     }
 
-    // Not one function with `erase`: they share the two arms, and in neither what becomes of the bytes.
+    // Not one function with `erase`: the two arms are alike, but what becomes of the bytes differs in each.
     fn write(&mut self, place: usize, byte: u8) -> Result<(), Fault> {
         match self.begin(place, 1)? {
             Some(pattern) => {

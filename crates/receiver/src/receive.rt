@@ -61,6 +61,7 @@ impl Receiver {
                     return Ok(false);
                 }
                 let (payload, sum) = self.rest.split_at(need);
+                // By their index: that there are just two is known to the proof and not to the type.
                 let good = u16::from_le_bytes([sum[0], sum[1]]) == crc::sum::<CrcCcitt>(payload);
                 self.rest.truncate(need);
                 self.state = Receiving::Header;

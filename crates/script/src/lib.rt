@@ -38,6 +38,7 @@ impl TryFrom<u8> for Kind {
     }
 }
 
+/// A script that was read.
 #[derive(Debug, Drop)]
 pub struct Script {
     pub layout: Layout,

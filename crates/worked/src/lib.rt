@@ -3,6 +3,7 @@
 
 ghost use Rattle.worked.specs.Worked.{Worked};
 
+/// Every row of the table of worked examples.
 pub fn worked_examples()
     ensures { Worked }
 {}

@@ -56,18 +56,21 @@ impl Layout {
         512 * self.k()
     }
 
+    /// The first place of the download area.
     pub fn download_place(&self) -> usize
         ensures { result ≡ download_place }
     {
         DOWNLOAD
     }
 
+    /// The first place of the application area.
     pub fn application_place(&self) -> usize
         ensures { result ≡ application_place self.now }
     {
         512 * (1 + self.k())
     }
 
+    /// The first place of the boot area.
     pub fn boot_place(&self) -> usize
         ensures { result ≡ boot_place self.now }
     {

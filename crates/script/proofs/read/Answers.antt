@@ -37,13 +37,3 @@ returns-in_err-layout c =
     let bytes = c.args.input.now in
     let says = after_cuts bytes c.in_ok-count.rest.now c.in_ok-kind.kind c.in_ok-count.count (search rules) (search rules) (kind_is _ _ c.in_ok-kind.ensures) (simp take_rest at c.in_ok-count.ensures) c.if-count-gt-MOST_CUTS.false c.in_ok-cuts.ensures.0 in
     rw says (search rules)
-
-pub returns-in_err-count-2 : goal.returns-in_err-count-2
-returns-in_err-count-2 c =
-    let bytes = c.args.input.now in
-    let rest = c.in_ok-count.rest.now in
-    let made = layout_is (exists (at bytes 1) (at bytes 2)) (at bytes 1) (at bytes 2) _ _ c.in_ok-layout.ensures in
-    let second = simp c.in_ok-cuts.ensures.2 at c.in_err-count-2.ensures in
-    let short : nat_le 2 (length (drop (6 * c.in_ok-count.count) rest)) ≡ false = lt-leb _ _ second.0 in
-    let says = after_cuts bytes rest c.in_ok-kind.kind c.in_ok-count.count (search rules) (search rules) (kind_is _ _ c.in_ok-kind.ensures) (simp take_rest at c.in_ok-count.ensures) c.if-count-gt-MOST_CUTS.false c.in_ok-cuts.ensures.0 in
-    rw (says, made.0, short) (search rules)
