@@ -4,6 +4,7 @@
 ghost use Rattle.worked.specs.Worked.{Worked};
 
 /// Every row of the table of worked examples.
+#[tactic(auto, unfolding(crc::specs::Register::shifts, crc::specs::Register::fed))]
 pub fn worked_examples()
     ensures { Worked }
 {}
