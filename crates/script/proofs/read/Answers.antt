@@ -1,5 +1,5 @@
 use Rattle.std.proofs.Common.{◌≡◌, ℕ, ◌*◌, Bool, true, false, cond, nat_le, Option, Some, None, Ok, Err, Result, ok_or, length, drop, sym, refl, ap, ◌∙◌, rules}
-use Rattle.std.proofs.lemmas.Bool.{le-leb, lt-leb}
+use Rattle.std.proofs.lemmas.Bool.{le-leb}
 use Rattle.std.proofs.lemmas.List.{take_rest}
 use Rattle.layout.specs.Areas.{exists}
 use Rattle.words.specs.declared.Refusal.{Refusal}
