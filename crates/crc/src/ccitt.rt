@@ -33,14 +33,21 @@ const TABLE: [u16; 256] = [
 #[derive(Clone, Copy, Debug)]
 pub struct CrcCcitt;
 
+impl CrcCcitt {
+    /// What stands in the register before the first byte.
+    pub const START: u16 = 0xFFFF;
+}
+
 impl Checksum for CrcCcitt {
     type Register = u16;
-
-    const START: u16 = 0xFFFF;
 
     ghost START = { 0xFFFF };
 
     ghost steps = { fed 16 0x1021 };
+
+    fn start() -> u16 {
+        Self::START
+    }
 
     fn step(register: u16, byte: u8) -> u16 {
         (register << 8) ^ TABLE[((register >> 8) ^ u16::from(byte)) as usize]

@@ -27,14 +27,21 @@ const TABLE: [u8; 256] = [
 #[derive(Clone, Copy, Debug)]
 pub struct Crc8;
 
+impl Crc8 {
+    /// What stands in the register before the first byte.
+    pub const START: u8 = 0;
+}
+
 impl Checksum for Crc8 {
     type Register = u8;
-
-    const START: u8 = 0;
 
     ghost START = { 0 };
 
     ghost steps = { fed 8 0x07 };
+
+    fn start() -> u8 {
+        Self::START
+    }
 
     // Not one function with CRC-CCITT's, which shifts its register by eight bits as well: a register of eight bits can't be shifted so far.
     fn step(register: u8, byte: u8) -> u8 {

@@ -14,12 +14,14 @@ pub use crc8::Crc8;
 pub trait Checksum {
     type Register;
 
-    /// What stands in the register before the first byte.
-    const START: Self::Register;
-
     ghost START: { Self.Register };
 
     ghost steps: { Self.Register → ℕ → Self.Register };
+
+    /// What stands in the register before the first byte. No constant, which could not be made by a call: a register that only its own
+    /// crate can make has a start too.
+    fn start() -> Self::Register
+        ensures { result ≡ START };
 
     fn step(register: Self::Register, byte: u8) -> Self::Register
         ensures { result ≡ steps register byte };
@@ -33,7 +35,7 @@ pub fn sum<S: Checksum>(bytes: &[u8]) -> S::Register
     bytes
         .iter()
         .copied()
-        .fold(S::START, |register, byte| S::step(register, byte))
+        .fold(S::start(), |register, byte| S::step(register, byte))
 }
 
 /// The register's laws, at every width: linear over XOR, and what becomes of its low part.

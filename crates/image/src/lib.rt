@@ -6,13 +6,17 @@ ghost use Rattle.image.specs.Check.{Check, accepted};
 ghost use Rattle.image.specs.Sums.{Meanings, AcceptsItsSum, ccitt_check, crc8_check, vector_check};
 ghost use Rattle.image.specs.Startable.{entry as the_entry, startable as can_start};
 
+mod ccitt;
+mod crc8;
 mod stored;
 mod sum;
 mod vector;
 
-use crc::Checksum;
+pub use ccitt::CcittCheck;
+use crc::{Checksum, Crc8, CrcCcitt};
+pub use crc8::Crc8Check;
 pub use stored::Stored;
-pub use sum::{CcittCheck, Crc8Check, SumCheck, SumState};
+pub use sum::{SumCheck, SumState};
 pub use vector::VectorOnly;
 
 /// The entry of an area whose last two bytes are erased.
@@ -90,5 +94,7 @@ pub fn checks_accept_by_their_sums()
     ensures meanings { Meanings }
     ensures ccitt { (⟦<CcittCheck as ImageCheck>⟧.check ≡ ccitt_check) × (⟦<CcittCheck as ImageCheck>⟧.SUM_LENGTH ≡ 2) }
     ensures crc8 { (⟦<Crc8Check as ImageCheck>⟧.check ≡ crc8_check) × (⟦<Crc8Check as ImageCheck>⟧.SUM_LENGTH ≡ 1) }
+    ensures by_ccitt { (⟦<SumCheck<CrcCcitt> as ImageCheck>⟧.check ≡ ccitt_check) × (⟦<SumCheck<CrcCcitt> as ImageCheck>⟧.SUM_LENGTH ≡ 2) }
+    ensures by_crc8 { (⟦<SumCheck<Crc8> as ImageCheck>⟧.check ≡ crc8_check) × (⟦<SumCheck<Crc8> as ImageCheck>⟧.SUM_LENGTH ≡ 1) }
     ensures vector { (⟦<VectorOnly as ImageCheck>⟧.check ≡ vector_check) × (⟦<VectorOnly as ImageCheck>⟧.SUM_LENGTH ≡ 0) }
 {}

@@ -2,7 +2,7 @@
 ghost use Rattle.image.specs.Sums.{sum_check};
 
 use crate::{ImageCheck, Stored};
-use crc::{Checksum, Crc8, CrcCcitt};
+use crc::Checksum;
 use std::marker::PhantomData;
 
 /// What has been seen: a part of the stored sum, or the whole of it with the register over the later bytes.
@@ -16,12 +16,6 @@ pub enum SumState<R> {
 /// The check by the checksum `S`.
 #[derive(Clone, Copy, Debug)]
 pub struct SumCheck<S>(PhantomData<S>);
-
-/// The check by a stored CRC-CCITT sum.
-pub type CcittCheck = SumCheck<CrcCcitt>;
-
-/// The check by a stored CRC-8 sum.
-pub type Crc8Check = SumCheck<Crc8>;
 
 impl<S: Checksum<Register: Stored>> ImageCheck for SumCheck<S> {
     type State = SumState<S::Register>;
@@ -47,7 +41,7 @@ impl<S: Checksum<Register: Stored>> ImageCheck for SumCheck<S> {
             },
             SumState::Storing { stored, .. } => SumState::Summing {
                 stored: stored.push(byte),
-                register: S::START,
+                register: S::start(),
             },
             SumState::Summing { stored, register } => SumState::Summing {
                 stored,
