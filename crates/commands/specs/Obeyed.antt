@@ -1,5 +1,5 @@
 -- Commands as the code has them, by their effects.
-use Rattle.std.specs.Prelude.{◌≡◌, ℕ, Bool, List, [], Ok, Err, Result}
+use Rattle.std.specs.Prelude.{◌≡◌, ◌⊎◌, ℕ, Bool, List, [], Ok, Err, Result}
 use Rattle.memory.specs.State.{State}
 use Rattle.memory.specs.Make.{Make}
 use Rattle.memory.specs.Ran.{Ran, erases}
@@ -11,7 +11,7 @@ use Rattle.layout.specs.declared.divided.Layout.{Layout}
 use Rattle.rule.specs.Command.{Effect, effect, erase_segment, write_block, jump}
 use Rattle.rule.specs.Performed.{Performed}
 use Rattle.words.specs.declared.Answer.{Answer}
-use Rattle.words.specs.declared.Answer.TheVariants.{Done, Version}
+use Rattle.words.specs.declared.Answer.TheVariants.{Done, Version, InvalidParams, IncorrectCommand}
 use Rattle.words.specs.declared.Job.TheVariants.{HostCommand}
 use Rattle.words.specs.declared.Refusal.{Refusal}
 use Rattle.commands.specs.declared.Command.{Command}
@@ -30,6 +30,10 @@ effect_of l can (Ok (C.WriteBlock address block)) = write_block l address block.
 effect_of l can (Ok C.Version) = effect [] Version
 effect_of l can (Ok C.Jump) = jump can
 effect_of l can (Err answer) = effect [] answer
+
+-- the answers to a payload that is no command: its address is missing, or its first byte names none
+abbrev pub AnswersNone : Answer → Type 0
+AnswersNone answer = (answer ≡ InvalidParams) ⊎ (answer ≡ IncorrectCommand)
 
 -- what is sent back after an effect, and the phase then
 abbrev pub response : Effect → Response

@@ -1,14 +1,14 @@
 //! The commands of the host, and what each does to the memory.
 #![tactic(auto)]
 
-ghost use Rattle.std.specs.Prelude.{◌≡◌, ◌+◌, ◌<◌, Bool, MatchOption};
+ghost use Rattle.std.specs.Prelude.{◌≡◌, ◌+◌, ◌<◌, Bool, IfErr, MatchOption};
 ghost use Rattle.image.specs.Check.{accepted};
 ghost use Rattle.layout.specs.Areas.{address as the_address, application_place};
 ghost use Rattle.layout.specs.declared.divided.Layout.{Layout as Areas};
 ghost use Rattle.memory.specs.Ran.{erases};
 ghost use Rattle.rule.specs.Command.{effect, erase_segment, write_block, jump, obey as the_effect};
 ghost use Rattle.words.specs.declared.Answer.TheVariants.{Done};
-ghost use Rattle.commands.specs.Obeyed.{ready, effect_of, Carried, Obeyed};
+ghost use Rattle.commands.specs.Obeyed.{ready, effect_of, AnswersNone, Carried, Obeyed};
 ghost use Rattle.words.specs.declared.Job.TheVariants.{HostCommand};
 ghost use Rattle.words.specs.declared.Phase.TheVariants.{Listening};
 
@@ -51,7 +51,8 @@ impl From<Answer> for Response {
 /// The command that a payload is, or the answer to one that is none.
 /// A payload may say more than its command needs, so this reads and does not convert.
 pub fn parse(payload: &[u8]) -> Result<Command<'_>, Answer>
-    ensures { (l : Areas) (can : Bool) → effect_of l can result ≡ the_effect l can payload.now }
+    ensures effect { (l : Areas) (can : Bool) → effect_of l can result ≡ the_effect l can payload.now }
+    ensures none { IfErr result AnswersNone }
 {
     match payload {
         [0x12, low, high, ..] => Ok(Command::EraseSegment {
