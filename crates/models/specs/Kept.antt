@@ -7,7 +7,7 @@ use Rattle.memory.specs.Change.{Change, write, erase, first, span, left, End, Ap
 use Rattle.memory.specs.Change.{past as is_past, off as is_off, finished as is_finished, torn as is_torn}
 use Rattle.memory.specs.Make.{Laws}
 use Rattle.models.specs.Cells.{Cells, Sound}
-use Rattle.models.specs.Simulated.{room, view, Fate, fate, put, done, torn, met, changed, known, simulated, CarriesAByte}
+use Rattle.models.specs.Simulated.{room, view, Fate, due, fate, put, done, torn, met, changed, known, simulated, CarriesAByte}
 use Rattle.models.specs.Views.{room_within, room_same, length-view, get_or-view, get_or-view_past, view_bytes}
 use Rattle.models.specs.Views.{length-put, get_or-put_below, get_or-put_here, get_or-put_above}
 use Rattle.memory.specs.declared.Fault.TheVariants.{PastEnd, SupplyLost}
@@ -17,14 +17,14 @@ use Rattle.models.specs.declared.simulated.Simulated.{Simulated}
 data Fated {C : Type 0} (place n : ℕ) (m : Simulated C) (f : Fate) : Type 0 where
   past : room m.bytes.now < place + n → f ≡ Err PastEnd → Fated place n m f
   off : place + n ≤ room m.bytes.now → m.on ≡ false → f ≡ Err (SupplyLost place) → Fated place n m f
-  begun : (torn_by : Option ℕ) → place + n ≤ room m.bytes.now → m.on ≡ true → f ≡ Ok torn_by → Fated place n m f
+  begun : (torn_by : Option ℕ) → place + n ≤ room m.bytes.now → m.on ≡ true → torn_by ≡ due m.cuts.now m.finished → f ≡ Ok torn_by → Fated place n m f
 
 fated : {C : Type 0} (place n : ℕ) (m : Simulated C) → Fated place n m (fate place n m)
 fated place n m =
     let P : Fate → Type 0 = Fated place n m in
     cond_both (nat_lt (room m.bytes.now) (place + n)) (Err PastEnd) _ P (λ e. past (ltb-true _ _ e) refl)
     (λ e. let fits = ltb-false _ _ e in
-    cond_both m.on _ (Err (SupplyLost place)) P (λ on. begun _ fits on refl) (λ on. off fits on refl))
+    cond_both m.on _ (Err (SupplyLost place)) P (λ on. begun _ fits on refl refl) (λ on. off fits on refl))
 
 -- a change puts something in its own places
 data Touched (bytes : List ℕ) : Change → List ℕ → Type 0 where
@@ -121,9 +121,9 @@ module _ (cells : Cells) (sound : Sound cells) where
         by : Fated (first c) (span c) m (fate (first c) (span c) m) → Changed c (known cells m) (known cells n) r
         by (past x e) = is_past (rw (length-view xs) x) (ap (known cells) (ap memory_of (is e))) (ap end_of (is e))
         by (off x on e) = is_off (rw (length-view xs) x) on (ap (known cells) (ap memory_of (is e))) (ap end_of (is e))
-        by (begun (Some pattern) x on e) = is_torn (rw (length-view xs) x) on (ap (λ p. (memory_of p).on) (is e))
+        by (begun (Some pattern) x on d e) = is_torn (rw (length-view xs) x) on (ap (λ p. (memory_of p).on) (is e))
             (beside c m n x (subst (Touched xs c) (sym (after e)) (torn_touched _ c xs (omega (arith, room_within xs))))) (ap end_of (is e))
-        by (begun None x on e) = is_finished (rw (length-view xs) x) on (ap (λ p. (memory_of p).on) (is e) ∙ on)
+        by (begun None x on d e) = is_finished (rw (length-view xs) x) on (ap (λ p. (memory_of p).on) (is e) ∙ on)
             (beside c m n x (subst (Touched xs c) (sym (after e)) (done_touched c xs)))
             (λ q l u. ap (λ ys. get_or (view ys) q 0xFF) (after e) ∙ left_done c m h.0 x q l u) (ap end_of (is e))
 

@@ -105,15 +105,13 @@ impl<'b, 'c, C: Cells> Memory for Simulated<'b, 'c, C> {
 
     fn erase(&mut self, segment: usize) -> Result<(), Fault> {
         let place = segment.saturating_mul(512);
-        let torn = self.begin(place, 512)?;
-        let places = &mut self.bytes[place..place + 512];
-        match torn {
+        match self.begin(place, 512)? {
             Some(pattern) => {
-                C::torn_erase(pattern, places);
+                C::torn_erase(pattern, &mut self.bytes[place..place + 512]);
                 Err(Fault::SupplyLost(place))
             }
             None => {
-                places.fill(0xFF);
+                self.bytes[place..place + 512].fill(0xFF);
                 Ok(())
             }
         }
