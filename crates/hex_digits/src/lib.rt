@@ -6,7 +6,7 @@ ghost use Rattle.hex_digits.specs.Digits.{digit as the_digit, byte_digits, word_
 
 use std::fmt;
 
-/// The character of the digit that a number's lowest four bits make, for callers outside. The library's `from_digit` gives an Option and lower case.
+/// The character of the digit that a number's lowest four bits make. The library's `from_digit` gives an Option and lower case.
 pub fn digit(nibble: u8) -> char
     ensures { result ≡ the_digit (nibble % 16) }
 {

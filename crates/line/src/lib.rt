@@ -1,26 +1,29 @@
 //! The lines that a bench writes: how each event of its script came out.
 #![tactic(auto)]
 
-ghost use Rattle.std.specs.Prelude.{◌≡◌, ◌++◌, IfOk, Some, is_ok, if◌then◌else◌, encode_utf8};
+ghost use Rattle.std.specs.Prelude.{◌≡◌, ◌+◌, ◌≤◌, ◌%◌, [], ◌∷◌, ◌++◌, length, decimal, IfOk, IsOk, Some, is_ok, if◌then◌else◌};
+ghost use Rattle.std.specs.Vec.{vec_capacity};
+ghost use Rattle.hex_digits.specs.Digits.{digit as the_digit};
 ghost use Rattle.line.specs.One.{letter as the_letter, value as the_value, line_bytes};
 ghost use Rattle.line.specs.Every.{lines_from};
 
+use arrayvec::ArrayVec;
 use hex_digits::HexByte;
 use std::alloc::{AllocError, Global};
 use std::fmt;
 use words::{Outcome, Phase, Refusal, Reply, Success, Turn};
 
 // The letter that says how an event came out. No restart chooses to wait.
-fn letter(outcome: Outcome<Reply>) -> char
-    ensures { encode_utf8 result ≡ the_letter outcome }
+fn letter(outcome: Outcome<Reply>) -> u8
+    ensures { result ∷ [] ≡ the_letter outcome }
 {
     match outcome {
-        Ok(Success::Said(None)) => 'N',
-        Ok(Success::Said(Some(_))) => 'A',
-        Ok(Success::Chose(Phase::Waiting)) => 'W',
-        Ok(Success::Chose(Phase::Listening)) => 'L',
-        Ok(Success::Chose(Phase::Running)) => 'S',
-        Err(_) => 'R',
+        Ok(Success::Said(None)) => b'N',
+        Ok(Success::Said(Some(_))) => b'A',
+        Ok(Success::Chose(Phase::Waiting)) => b'W',
+        Ok(Success::Chose(Phase::Listening)) => b'L',
+        Ok(Success::Chose(Phase::Running)) => b'S',
+        Err(_) => b'R',
     }
 }
 
@@ -47,19 +50,50 @@ impl fmt::Display for Line {
 
     fn fmt<W: fmt::Write>(&self, f: &mut fmt::Formatter<W>) -> fmt::Result {
         let number = self.number;
-        let letter = letter(self.outcome);
+        let letter = char::from(letter(self.outcome));
         let value = HexByte(value(self.outcome));
         writeln!(f, "{number} {letter} {value}")
     }
 }
 
-/// Appends the line of an event. After an error the bytes are as they were.
-/// Bytes and no String: of a caller's buffer no UTF-8 is asked, and `write!` promises nothing of a String after an error.
-pub fn append(bytes: &mut Vec<u8>, number: usize, outcome: Outcome<Reply>) -> Result<(), AllocError>
-    ensures { bytes.new.items ≡ (if is_ok result then bytes.old.items ++ line_bytes number outcome else bytes.old.items) }
+// The byte of a hexadecimal digit.
+fn digit(nibble: u8) -> u8
+    ensures { result ≡ the_digit (nibble % 16) }
 {
-    let line = Line { number, outcome }.to_string(*bytes.allocator())?;
-    bytes.extend_from_slice(line.as_bytes())
+    hex_digits::digit(nibble) as u8
+}
+
+// Appends the decimal digits of a number, for which there is room.
+fn append_decimal(line: &mut ArrayVec<u8, 26>, number: usize)
+    requires { length line.old.items + length (decimal number) ≤ 26 }
+    ensures { line.new.items ≡ line.old.items ++ decimal number }
+{
+    if number >= 10 {
+        append_decimal(line, number / 10);
+    }
+    line.push(b'0' + (number % 10) as u8);
+}
+
+/// Appends the line of an event. After an error the bytes are as they were; where they have room for the line, there is none.
+/// The line is made by hand, in 26 bytes, which are 20 digits and six more: by the `Display` of a `Line` it would take memory of its own, or,
+/// in fixed memory, two fifths more time.
+pub fn append(bytes: &mut Vec<u8>, number: usize, outcome: Outcome<Reply>) -> Result<(), AllocError>
+    ensures room { length bytes.old.items + length (line_bytes number outcome) ≤ vec_capacity bytes.old → IsOk result }
+    ensures appended { bytes.new.items ≡ (if is_ok result then bytes.old.items ++ line_bytes number outcome else bytes.old.items) }
+{
+    let mut line: ArrayVec<u8, 26> = ArrayVec::new();
+    append_decimal(&mut line, number);
+    let value = value(outcome);
+    // This never fails, since there is room.
+    let _ = line.try_extend_from_slice(&[
+        b' ',
+        letter(outcome),
+        b' ',
+        digit(value / 16),
+        digit(value),
+        b'\n',
+    ]);
+    bytes.extend_from_slice(line.as_slice())
 }
 
 /// The lines of a script that was played: one for each turn, up to the first that was not played, and one for the refusal of its ending.
