@@ -132,9 +132,14 @@ impl Controller {
             Err(answer) => return Ok(Some(answer)),
         }
         self.phase = Phase::Waiting;
-        let response = obey::<M, C>(memory, &self.layout, self.receiver.payload())?;
-        self.phase = response.phase;
-        Ok(Some(response.answer))
+        match obey::<M, C>(memory, &self.layout, self.receiver.payload()) {
+            Ok(response) => {
+                self.phase = response.phase;
+                Ok(Some(response.answer))
+            }
+            // An arm and no `?`: here a must-fail edit has the receiver keep a byte after a cut.
+            Err(refusal) => Err(refusal),
+        }
     }
 
     /// Either of the two calls.

@@ -137,6 +137,8 @@ pub fn seal(image: &mut [u8]) -> Result<Sealed, TooShort>
 {
     let (stored, covered) = image.split_first_chunk_mut::<2>().ok_or(TooShort)?;
     let sum = crc::sum::<CrcCcitt>(covered);
-    *stored = sum.to_le_bytes();
+    // By two names: here a must-fail edit stores one of them twice.
+    let [low, high] = sum.to_le_bytes();
+    *stored = [low, high];
     Ok(Sealed(sum))
 }

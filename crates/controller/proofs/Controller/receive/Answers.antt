@@ -1,5 +1,4 @@
 use Rattle.std.proofs.Common.{Ok, ap, ◌∙◌, rules}
-use Rattle.std.proofs.lemmas.Result.{err_from_is_err_and}
 use Rattle.image.specs.Check.{accepted}
 use Rattle.receiver.specs.Packet.{packet}
 use Rattle.controller.proofs.Receives.{goes_on, is_wrong, replies, is_lost}
@@ -15,16 +14,14 @@ returns-in-Err g c =
     is_wrong g.met.M.Memory.laws (accepted g.C.ImageCheck.check) c.args.self.now c.args.byte c.args.memory.now (search rules) (search rules)
     c.byte.result c.byte.new.self.rest.items (packet c.byte.new.self) c.byte.ensures.event c.byte.ensures.keeps c.in-Err.answer c.in-Err.is
 
-pub returns-in_err-response : goal.returns-in_err-response
-returns-in_err-response g c =
-    let p = err_from_is_err_and c.from_residual-in_err-response.result c.from_residual-in_err-response.ensures.1 in
-    rw (p.1, p.2)
-    (is_lost g.met.M.Memory.laws (accepted g.C.ImageCheck.check) c.args.self.now c.args.byte c.args.memory.now (search rules) (search rules)
-    c.byte.result c.byte.new.self.rest.items (packet c.byte.new.self) c.byte.ensures.event c.byte.ensures.keeps (c.in-Ok-true.is ∙ ap Ok c.in-Ok-true.field-0-test)
-    c.payload.result.now c.payload.ensures c.obey.new.memory c.obey.result c.obey.ensures _ c.in_err-response.was)
-
-pub returns : goal.returns
-returns g c =
+pub returns-in-Ok : goal.returns-in-Ok
+returns-in-Ok g c =
     replies g.met.M.Memory.laws (accepted g.C.ImageCheck.check) c.args.self.now c.args.byte c.args.memory.now (search rules) (search rules)
     c.byte.result c.byte.new.self.rest.items (packet c.byte.new.self) c.byte.ensures.event c.byte.ensures.keeps (c.in-Ok-true.is ∙ ap Ok c.in-Ok-true.field-0-test)
-    c.payload.result.now c.payload.ensures c.obey.new.memory c.obey.result c.obey.ensures _ c.in_ok-response.was
+    c.payload.result.now c.payload.ensures c.obey.new.memory c.obey.result c.obey.ensures c.in-Ok.response c.in-Ok.is
+
+pub returns-in-Err-obey : goal.returns-in-Err-obey
+returns-in-Err-obey g c =
+    is_lost g.met.M.Memory.laws (accepted g.C.ImageCheck.check) c.args.self.now c.args.byte c.args.memory.now (search rules) (search rules)
+    c.byte.result c.byte.new.self.rest.items (packet c.byte.new.self) c.byte.ensures.event c.byte.ensures.keeps (c.in-Ok-true.is ∙ ap Ok c.in-Ok-true.field-0-test)
+    c.payload.result.now c.payload.ensures c.obey.new.memory c.obey.result c.obey.ensures c.in-Err-obey.refusal c.in-Err-obey.is
